@@ -1,7 +1,7 @@
 //! Claims of given trees whose lemmas are known beforehand, and one whose lemma needs what was played above it.
 
 use crate::expect::{expect_same, expect_that};
-use crate::proof_numbers::{ALL, WITHOUT_PASTS, accepted, found, found_plainly, problem, saving};
+use crate::proof_numbers::{ALL, WITHOUT_PASTS, accepted, found, problem, saving};
 use claim_maker::{Choice, MAX_TRIED, Pasts, Saving, claim_with_lemmas, share_tree};
 use go_points::Colour;
 use proof_cert::{Certificate, Version, read_cert, write_cert};
@@ -189,22 +189,22 @@ fn needs_what_was_played(problem: &Problem, claim: &Certificate) -> bool {
     false
 }
 
-// White has to live in ten points on the edge, and does not. If Black takes a ko there, the proof rests on the position before,
+// White has to live in nine points in a corner, and does not. If Black takes a ko there, the proof rests on the position before,
 // which White may not bring back.
 #[test]
 fn a_lemma_may_need_what_was_played_above_it(rt: HostRuntime) {
     let alloc = rt.alloc();
-    let texts = [".O...X.....OOOXXOXXXXXX............."];
-    let region = "aabacadaeaabbbcbdbeb";
-    let edge = problem(&rt, alloc, 6, &texts, Colour::White, "acbc", region);
-    let shared = found_plainly(&rt, alloc, &edge, 10_000);
+    let texts = [".O.X.X.X.OXXXXXX"];
+    let region = "aabacaabbbcbacbccc";
+    let corner = problem(&rt, alloc, 4, &texts, Colour::White, "ba", region);
+    let shared = found(&rt, alloc, &corner, 10_000);
     expect_same(&rt, shared.winner, Colour::Black);
     let mut nodes = MAX_TRIED;
-    match claim_with_lemmas(alloc, &edge, &shared, ALL, &mut nodes) {
+    match claim_with_lemmas(alloc, &corner, &shared, ALL, &mut nodes) {
         Ok(claim) => {
             expect_same(&rt, claim.version, Version::Two);
-            expect_that(&rt, needs_what_was_played(&edge, &claim));
-            expect_that(&rt, accepted(&rt, alloc, &edge, claim) > 0);
+            expect_that(&rt, needs_what_was_played(&corner, &claim));
+            expect_that(&rt, accepted(&rt, alloc, &corner, claim) > 0);
         }
         Err(_) => panic!(&rt; "a claim with lemmas"),
     }

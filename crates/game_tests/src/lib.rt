@@ -26,3 +26,5 @@ mod shapes;
 mod short;
 #[cfg(test)]
 mod table;
+#[cfg(test)]
+mod wide_boards;

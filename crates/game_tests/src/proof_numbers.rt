@@ -4,7 +4,6 @@ use crate::expect::{expect_same, expect_that};
 use crate::positions::{Position, problem_of};
 use cert_check::check_held;
 use claim_maker::{Choice, MAX_TRIED, Pasts, Saving, claim_with_lemmas, claim_without_lemmas};
-use df_pn::Search;
 use go_points::Colour;
 use local_search::prove;
 use proof_cert::{Certificate, Version, write_cert};
@@ -48,35 +47,21 @@ fn settled(
     steps: u64,
 ) -> (Option<Stop>, u64) {
     let mut left = steps;
-    let mut search = Search::of(alloc, problem, states(rt, table)).expect(rt, "memory");
-    match search.settle(0, &mut left) {
+    match prove(alloc, problem, states(rt, table), Answers::First, &mut left) {
         Ok(_) => (None, left),
         Err(stop) => (Some(stop), left),
     }
 }
 
-// Like `settled`, for the first answer of the search that knows shapes.
+// Like `settled`, with a table of a hundred states.
 fn answered(rt: &impl Abort, alloc: Global, problem: &Problem, steps: u64) -> (Option<Stop>, u64) {
-    let mut left = steps;
-    match prove(alloc, problem, states(rt, 100), Answers::First, &mut left) {
-        Ok(_) => (None, left),
-        Err(stop) => (Some(stop), left),
-    }
+    settled(rt, alloc, problem, 100, steps)
 }
 
 // The proofs that are found with a table of this many entries and enough steps.
 pub fn found(rt: &impl Abort, alloc: Global, problem: &Problem, table: usize) -> Shared {
     let mut left = 200_000;
     match prove(alloc, problem, states(rt, table), Answers::Small, &mut left) {
-        Ok(shared) => shared,
-        Err(_) => panic!(rt; "a proof"),
-    }
-}
-
-// Like `found`, by the search that knows no shapes.
-pub fn found_plainly(rt: &impl Abort, alloc: Global, problem: &Problem, table: usize) -> Shared {
-    let mut left = 200_000;
-    match df_pn::prove(alloc, problem, states(rt, table), Answers::Small, &mut left) {
         Ok(shared) => shared,
         Err(_) => panic!(rt; "a proof"),
     }
@@ -157,14 +142,8 @@ fn claimed(
     }
 }
 
-// Expects this many steps to be enough in either search, and one fewer not to be; the side to win; and no claim to be refused.
+// Expects this many steps to be enough, and one fewer not to be; the side to win; and no claim to be refused.
 fn check(rt: &impl Abort, alloc: Global, problem: Problem, winner: Colour, steps: u64) {
-    let (stop, none_left) = settled(rt, alloc, &problem, 100, steps.saturating_sub(1));
-    expect_same(rt, stop, Some(Stop::Steps));
-    expect_same(rt, none_left, 0);
-    let (no_stop, left) = settled(rt, alloc, &problem, 100, steps);
-    expect_same(rt, no_stop, None);
-    expect_same(rt, left, 0);
     let too_few = answered(rt, alloc, &problem, steps.saturating_sub(1));
     expect_that(rt, too_few == (Some(Stop::Steps), 0));
     expect_that(rt, answered(rt, alloc, &problem, steps) == (None, 0));
@@ -392,13 +371,23 @@ fn each_state_of_an_answer_is_a_step(rt: HostRuntime) {
 #[test]
 fn a_state_is_proved_anew_where_its_proof_does_not_hold(rt: HostRuntime) {
     let alloc = rt.alloc();
-    let corner = six_points(&rt, alloc, Colour::Black);
-    let mut left = 200_000;
-    let mut search = Search::of(alloc, &corner, states(&rt, 10_000)).expect(&rt, "memory");
-    expect_that(&rt, search.settle(0, &mut left).is_ok());
-    let proofs = &search.proofs;
+    let texts = ["OOO.X.XO.OX.....X.XXXXX............."];
+    let region = "aabacadaabbbcbdbacbcccdc";
+    let corner = problem(&rt, alloc, 6, &texts, Colour::White, "aa", region);
+    let shared = found(&rt, alloc, &corner, 10_000);
+    let proofs = &shared.proofs;
     expect_that(&rt, proved_states(proofs) < proofs.len() as u64);
     expect_that(&rt, wins(&rt, alloc, &corner, Colour::Black, 10_000) > 0);
+}
+
+// White has to live in ten points on the edge, and does not. There is a ko.
+#[test]
+fn ten_points_on_the_edge_are_blacks(rt: HostRuntime) {
+    let alloc = rt.alloc();
+    let texts = [".O...X.....OOOXXOXXXXXX............."];
+    let region = "aabacadaeaabbbcbdbeb";
+    let edge = problem(&rt, alloc, 6, &texts, Colour::White, "acbc", region);
+    expect_that(&rt, wins(&rt, alloc, &edge, Colour::Black, 10_000) > 0);
 }
 
 // With a table of one entry, states that it forgets are searched in another order.

@@ -4,31 +4,37 @@
 use crate::expect::{expect_same, expect_that};
 use crate::proof_numbers::problem;
 use go_points::Colour;
-use local_board::{Board, Eyes, Position, Shapes, Side};
+use local_board::{Board, Eyes, LargeSet, PlaceSet, Position, Shapes, Side, SmallSet};
 use std::alloc::Global;
 use std::process::Abort;
 
 // The board of a problem whose target Black defends, and its position.
-fn shapes(
+fn shapes<S: PlaceSet>(
     rt: &impl Abort,
     alloc: Global,
     text: &str,
     target: &str,
     region: &str,
-) -> (Shapes, Position) {
+) -> (Shapes<S>, Position<S>) {
     let given = problem(rt, alloc, 5, &[text], Colour::White, target, region);
     let (board, position) = Board::of(alloc, &given).expect(rt, "memory");
     (Shapes::of(alloc, board), position)
 }
 
 fn is_alive(rt: &impl Abort, alloc: Global, text: &str, target: &str, region: &str) -> bool {
-    let (mut shapes, position) = shapes(rt, alloc, text, target, region);
-    shapes.is_alive(position)
+    let (mut small, position) = shapes::<SmallSet>(rt, alloc, text, target, region);
+    let (mut large, same_position) = shapes::<LargeSet>(rt, alloc, text, target, region);
+    let lives = small.is_alive(position);
+    expect_same(rt, large.is_alive(same_position), lives);
+    lives
 }
 
 fn eyes(rt: &impl Abort, alloc: Global, text: &str, target: &str, region: &str) -> Eyes {
-    let (mut shapes, position) = shapes(rt, alloc, text, target, region);
-    shapes.eyes(position)
+    let (mut small, position) = shapes::<SmallSet>(rt, alloc, text, target, region);
+    let (mut large, same_position) = shapes::<LargeSet>(rt, alloc, text, target, region);
+    let eyes = small.eyes(position);
+    expect_same(rt, large.eyes(same_position), eyes);
+    eyes
 }
 
 #[test]
@@ -68,7 +74,7 @@ fn a_space_whose_middle_the_attacker_holds_is_no_eye(rt: HostRuntime) {
 fn what_was_taken_does_not_live(rt: HostRuntime) {
     let alloc = rt.alloc();
     let text = "X....O...................";
-    let (mut shapes, position) = shapes(&rt, alloc, text, "aa", "ba");
+    let (mut shapes, position) = shapes::<SmallSet>(&rt, alloc, text, "aa", "ba");
     let after = shapes.board.after(position, Side::Attacker, 1);
     expect_that(&rt, shapes.board.is_taken(after));
     expect_that(&rt, !shapes.is_alive(after));
@@ -99,7 +105,7 @@ fn a_way_out_by_two_ways_is_far(rt: HostRuntime) {
     let text = "X........................";
     let found = eyes(&rt, rt.alloc(), text, "aa", "baabbb");
     expect_that(&rt, !found.is_dead);
-    expect_same(&rt, found.many, 40);
+    expect_same(&rt, found.eye_points, 40);
 }
 
 #[test]

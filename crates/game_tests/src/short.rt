@@ -10,9 +10,7 @@ use go_points::{Colour, Turn};
 use pass_alive::is_pass_alive;
 use pn_search::{Audience, Budget, Cause, find_short};
 use proof_cert::{Certificate, Node};
-use state_proofs::{
-    Answers, Below, Branch, Form, Line, Play, Proofs, Settled, Shared, Stop, share,
-};
+use state_proofs::{Below, Branch, Form, Line, Play, Proofs, Settled, share};
 use std::alloc::Global;
 use std::num::NonZeroUsize;
 use std::process::Abort;
@@ -247,30 +245,6 @@ fn too_few_steps_find_nothing(rt: HostRuntime) {
     let dying = six_points(&rt, alloc, Colour::Black);
     runs_out(&rt, alloc, &dying, budget(&rt, 3), 3);
     runs_out(&rt, alloc, &dying, budget(&rt, 1_000), 3);
-}
-
-// The search that knows no shapes has no leaves, so the checker of other claims accepts what it finds.
-#[test]
-fn a_search_without_shapes_has_no_leaves(rt: HostRuntime) {
-    let alloc = rt.alloc();
-    let corner = three_points(&rt, alloc, Colour::White);
-    let table = NonZeroUsize::new(1_000).expect(&rt, "a size");
-    let mut left = 200_000;
-    let shared: Result<Shared, Stop> = df_pn::prove(
-        alloc,
-        &corner,
-        table,
-        Answers::Short,
-        &mut left,
-    );
-    let mut nodes = MAX_TRIED;
-    match shared {
-        Ok(shared) => match claim_without_lemmas(alloc, &corner, &shared, &mut nodes) {
-            Ok(claim) => expect_same(&rt, accepted(&rt, alloc, &corner, claim), 0),
-            Err(_) => panic!(&rt; "a claim"),
-        },
-        Err(_) => panic!(&rt; "a proof"),
-    }
 }
 
 // The proofs of a turn to a leaf, by hand, are the same after they are shared along the line.

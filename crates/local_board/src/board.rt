@@ -1,7 +1,7 @@
 //! The places of a problem, what is beside each, and moves.
 
 use crate::changing::{cell_of, changing_points, is_inside, is_target, neighbour};
-use crate::place_set::{MAX_PLACES, PlaceSet};
+use crate::place_set::PlaceSet;
 use crate::position::{Position, Side, Step};
 use go_points::{Cell, Colour, MAX_POINTS, Point, Size, Turn};
 use std::alloc::{AllocError, Global};
@@ -10,10 +10,10 @@ use target_game::Problem;
 
 /// A point that can change.
 #[derive(Clone, Copy)]
-struct Spot {
+struct Spot<S> {
     point: Point,
     /// The places beside it.
-    near: PlaceSet,
+    near: S,
     /// The words of a stone of each side there. The key of a colouring is the exclusive or of such words.
     attacker: u64,
     defender: u64,
@@ -21,45 +21,45 @@ struct Spot {
 
 /// The places of a problem.
 #[derive(Drop)]
-pub struct Board {
+pub struct Board<S> {
     size: Size,
-    spots: Vec<Spot>,
+    spots: Vec<Spot<S>>,
     /// The place of each point of the board. For a point that does not change, it is a place that does not exist.
     places: Vec<u16>,
     /// All places, the places in the region, and the places of targets.
-    pub(crate) all: PlaceSet,
-    pub(crate) region: PlaceSet,
-    pub(crate) targets: PlaceSet,
-    /// One target of each chain that has any in the problem's position. Stones of one chain stay on one chain.
-    pub(crate) heads: PlaceSet,
+    pub(crate) all: S,
+    pub(crate) region: S,
+    pub(crate) targets: S,
+    /// One stone of each chain that has targets in the problem's position, beside an empty place if that may be. Stones of one chain
+    /// stay on one chain.
+    pub(crate) heads: S,
     /// Places where a stone of a side can never be taken: beside them is an empty point that does not change, or a stone of the
     /// side that does not change.
-    pub(crate) lasting: Position,
+    pub(crate) lasting: Position<S>,
 }
 
 /// A place that does not exist.
 const NO_PLACE: u16 = u16::MAX;
 
-impl Board {
-    /// The places of the problem and its position, if there are at most `MAX_PLACES` places. The time is linear in the number of
-    /// points.
-    pub fn of(alloc: Global, problem: &Problem) -> Result<(Board, Position), AllocError> {
+impl<S: PlaceSet> Board<S> {
+    /// The places of the problem and its position, if a set has room for as many. The time is linear in the number of points.
+    pub fn of(alloc: Global, problem: &Problem) -> Result<(Board<S>, Position<S>), AllocError> {
         let changing = changing_points(alloc, problem)?;
         let mut board = Board {
             size: problem.size(),
             spots: Vec::new(alloc),
             places: Vec::new(alloc),
-            all: PlaceSet::empty(),
-            region: PlaceSet::empty(),
-            targets: PlaceSet::empty(),
-            heads: PlaceSet::empty(),
+            all: S::empty(),
+            region: S::empty(),
+            targets: S::empty(),
+            heads: S::empty(),
             lasting: Position::empty(),
         };
         board.add_places(changing.as_slice())?;
         board.add_spots(problem, changing.as_slice())?;
         board.add_lasting(problem);
         let position = board.position_of(problem);
-        board.heads = board.heads_of(position.defender);
+        board.heads = board.heads_of(position);
         Ok((board, position))
     }
 
@@ -67,7 +67,7 @@ impl Board {
     fn add_places(&mut self, changing: &[bool]) -> Result<(), AllocError> {
         let mut next: u16 = 0;
         for changes in changing {
-            if *changes && (next as usize) < MAX_PLACES {
+            if *changes && (next as usize) < S::most() {
                 self.places.push(next)?;
                 self.all = self.all.with(next as usize);
                 next = next.saturating_add(1);
@@ -119,8 +119,8 @@ impl Board {
     }
 
     /// The places beside the point of this number.
-    fn places_beside(&self, problem: &Problem, number: usize) -> PlaceSet {
-        let mut near = PlaceSet::empty();
+    fn places_beside(&self, problem: &Problem, number: usize) -> S {
+        let mut near = S::empty();
         for side in 0..4usize {
             if let Some(beside) = neighbour(problem.size(), number, side) {
                 if let Some(place) = self.place_at(beside) {
@@ -158,7 +158,7 @@ impl Board {
     }
 
     /// The problem's position.
-    fn position_of(&self, problem: &Problem) -> Position {
+    fn position_of(&self, problem: &Problem) -> Position<S> {
         let mut position = Position::empty();
         let defender = problem.defender();
         for number in 0..problem.size().area() {
@@ -171,16 +171,19 @@ impl Board {
         position
     }
 
-    /// One target of each chain of these stones that has any.
-    fn heads_of(&self, defender: PlaceSet) -> PlaceSet {
-        let mut heads = PlaceSet::empty();
-        let mut rest = self.targets.and(defender).places();
+    /// A stone of each of the defender's chains that have targets, beside an empty place if the chain has such a stone.
+    fn heads_of(&self, position: Position<S>) -> S {
+        let defender = position.defender;
+        let open = self.all_beside(self.empty(position));
+        let mut heads = S::empty();
+        let mut rest = self.targets.and(defender);
         for _ in 0..u64::MAX {
-            let Some(at) = rest.take() else {
+            let Some(at) = rest.take_first() else {
                 return heads;
             };
-            heads = heads.with(at);
-            rest.skip(self.chain(defender, at));
+            let chain = self.chain(defender, at);
+            heads = heads.with(chain.and(open).first().unwrap_or(at));
+            rest = rest.minus(chain);
         }
         heads
     }
@@ -191,7 +194,7 @@ impl Board {
     }
 
     /// The places of the region.
-    pub fn region(&self) -> PlaceSet {
+    pub fn region(&self) -> S {
         self.region
     }
 
@@ -221,10 +224,10 @@ impl Board {
     }
 
     /// The places beside this one.
-    pub fn near(&self, place: usize) -> PlaceSet {
+    pub fn near(&self, place: usize) -> S {
         match self.spots.get(place) {
             Some(spot) => spot.near,
-            None => PlaceSet::empty(),
+            None => S::empty(),
         }
     }
 
@@ -240,93 +243,110 @@ impl Board {
     }
 
     /// The key of a position, from that of another.
-    pub fn key_from(&self, before: Position, key: u64, after: Position) -> u64 {
+    pub fn key_from(&self, before: Position<S>, key: u64, after: Position<S>) -> u64 {
         let attacker = before.attacker.difference(after.attacker);
         let defender = before.defender.difference(after.defender);
         key ^ self.words_of(Side::Attacker, attacker) ^ self.words_of(Side::Defender, defender)
     }
 
     /// The exclusive or of the words of the side's stones at these places.
-    fn words_of(&self, side: Side, places: PlaceSet) -> u64 {
+    fn words_of(&self, side: Side, places: S) -> u64 {
         let mut word = 0;
-        let mut rest = places.places();
-        for _ in 0..u64::MAX {
-            let Some(place) = rest.take() else {
-                return word;
-            };
+        for place in places.places() {
             word ^= self.word(side, place);
         }
         word
     }
 
     /// The empty places.
-    pub fn empty(&self, position: Position) -> PlaceSet {
+    pub fn empty(&self, position: Position<S>) -> S {
         self.all.minus(position.stones())
     }
 
     /// The places that are connected with these through places of `own`, including these.
-    pub fn connected(&self, from: PlaceSet, own: PlaceSet) -> PlaceSet {
+    pub fn connected(&self, from: S, own: S) -> S {
         let mut found = from;
-        let mut front = from.places();
+        let mut front = from;
         for _ in 0..u64::MAX {
-            let Some(place) = front.take() else {
+            let Some(place) = front.take_first() else {
                 return found;
             };
             let more = self.near(place).and(own).minus(found);
             found = found.or(more);
-            front.add(more);
+            front = front.or(more);
         }
         found
     }
 
     /// The chain of the stone at this place, if the side has these stones, and the places beside its stones.
-    pub(crate) fn chain_and_near(&self, own: PlaceSet, place: usize) -> (PlaceSet, PlaceSet) {
-        let mut found = PlaceSet::empty().with(place);
-        let mut front = found.places();
-        let mut near = PlaceSet::empty();
+    pub(crate) fn chain_and_near(&self, own: S, place: usize) -> (S, S) {
+        let mut found = S::empty().with(place);
+        let mut front = found;
+        let mut near = S::empty();
         for _ in 0..u64::MAX {
-            let Some(at) = front.take() else {
+            let Some(at) = front.take_first() else {
                 break;
             };
             let beside = self.near(at);
             let more = beside.and(own).minus(found);
             near = near.or(beside);
             found = found.or(more);
-            front.add(more);
+            front = front.or(more);
         }
         (found, near)
     }
 
     /// The chain of the stone at this place, if the side has these stones.
-    pub fn chain(&self, own: PlaceSet, place: usize) -> PlaceSet {
-        self.connected(PlaceSet::empty().with(place), own)
+    pub fn chain(&self, own: S, place: usize) -> S {
+        self.connected(S::empty().with(place), own)
     }
 
     /// The places beside these, without these themselves.
-    pub fn beside(&self, places: PlaceSet) -> PlaceSet {
+    pub fn beside(&self, places: S) -> S {
         self.all_beside(places).minus(places)
     }
 
     /// The places beside these.
-    pub fn all_beside(&self, places: PlaceSet) -> PlaceSet {
-        let mut found = PlaceSet::empty();
-        let mut rest = places.places();
-        for _ in 0..u64::MAX {
-            let Some(place) = rest.take() else {
-                return found;
-            };
+    pub fn all_beside(&self, places: S) -> S {
+        let mut found = S::empty();
+        for place in places.places() {
             found = found.or(self.near(place));
         }
         found
     }
 
+    /// The places beside these. `None` if one of them is among the others.
+    pub(crate) fn all_beside_but(&self, places: S, others: S) -> Option<S> {
+        let mut found = S::empty();
+        for place in places.places() {
+            let near = self.near(place);
+            if near.meets(others) {
+                return None;
+            }
+            found = found.or(near);
+        }
+        Some(found)
+    }
+
+    /// The places that have one or more of these beside them, and those that have several.
+    pub(crate) fn beside_one_and_several(&self, places: S) -> (S, S) {
+        let mut one = S::empty();
+        let mut several = S::empty();
+        for at in places.places() {
+            let near = self.near(at);
+            several = several.or(one.and(near));
+            one = one.or(near);
+        }
+        (one, several)
+    }
+
     /// Whether a target has been taken.
-    pub fn is_taken(&self, position: Position) -> bool {
+    pub fn is_taken(&self, position: Position<S>) -> bool {
         !self.targets.is_within(position.defender)
     }
 
     /// Those of the given stones of this side that are on chains that can never be taken.
-    pub fn permanent(&self, own: PlaceSet, side: Side) -> PlaceSet {
+    pub fn permanent(&self, own: S, side: Side) -> S {
         self.connected(own.and(self.lasting.of(side)), own)
     }
 }

@@ -8,18 +8,22 @@
 mod board;
 mod changing;
 mod eyes;
+mod large_set;
 mod latest;
 mod life;
 mod place_set;
 mod position;
 mod room;
 mod shapes;
+mod small_set;
 mod taking;
 
 pub use board::Board;
 pub use changing::count_changing;
 pub use eyes::Eyes;
-pub use place_set::{MAX_PLACES, PlaceSet, Places};
+pub use large_set::LargeSet;
+pub use place_set::{PlaceSet, Places};
 pub use position::{Position, Side, Step};
 pub use room::Room;
 pub use shapes::Shapes;
+pub use small_set::{MAX_SMALL, SmallSet};

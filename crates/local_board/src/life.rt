@@ -7,6 +7,7 @@
 use crate::board::Board;
 use crate::place_set::PlaceSet;
 use crate::position::Side;
+use std::alloc::Global;
 
 /// The greatest number of eyes, and of chains, that are looked at.
 const ROOM: usize = 40;
@@ -16,91 +17,78 @@ const MAX_EYE: u32 = 12;
 
 /// An area between the defender's chains that can be an eye, or a chain that has no lasting liberty.
 #[derive(Clone, Copy)]
-struct Part {
-    places: PlaceSet,
+struct Part<S> {
+    places: S,
     /// The places beside it.
-    beside: PlaceSet,
+    beside: S,
     /// Whether it is still thought to live, or to be an eye of something that lives.
     is_good: bool,
 }
 
-/// Eyes or chains.
-#[derive(Clone, Copy)]
-struct Parts {
-    parts: [Part; ROOM],
-    count: usize,
+/// Eyes or chains, at most `ROOM`.
+#[derive(Drop)]
+struct Parts<S> {
+    parts: Vec<Part<S>>,
 }
 
-/// The eyes and the chains of one question. They are made anew for each, in the same memory: a function fills its own large values
-/// before it begins, which would take longer than most questions.
-#[derive(Clone, Copy)]
-pub(crate) struct LifeParts {
-    eyes: Parts,
-    chains: Parts,
+/// The eyes and the chains of one question. They are made anew for each, in the same memory.
+#[derive(Drop)]
+pub(crate) struct LifeParts<S> {
+    eyes: Parts<S>,
+    chains: Parts<S>,
 }
 
-impl LifeParts {
-    pub(crate) fn none() -> LifeParts {
+impl<S: PlaceSet> LifeParts<S> {
+    pub(crate) fn none(alloc: Global) -> LifeParts<S> {
         LifeParts {
-            eyes: Parts::none(),
-            chains: Parts::none(),
+            eyes: Parts::none(alloc),
+            chains: Parts::none(alloc),
         }
     }
 }
 
-impl Parts {
-    fn none() -> Parts {
-        let part = Part {
-            places: PlaceSet::empty(),
-            beside: PlaceSet::empty(),
-            is_good: false,
-        };
+impl<S: PlaceSet> Parts<S> {
+    fn none(alloc: Global) -> Parts<S> {
         Parts {
-            parts: [part; ROOM],
-            count: 0,
+            parts: Vec::new(alloc),
         }
     }
 
     fn clear(&mut self) {
-        self.count = 0;
+        self.parts.clear();
     }
 
-    /// Adds one more, and returns whether there was room.
-    fn add(&mut self, places: PlaceSet, beside: PlaceSet) -> bool {
-        if self.count >= ROOM {
+    /// Adds one more, and returns whether there was room. If memory is refused, there was none.
+    fn add(&mut self, places: S, beside: S) -> bool {
+        if self.parts.len() >= ROOM {
             return false;
         }
-        self.parts[self.count] = Part {
+        let part = Part {
             places,
             beside,
             is_good: true,
         };
-        self.count += 1;
-        true
+        self.parts.push(part).is_ok()
     }
 
     /// Whether two good parts have all their places among these.
-    fn has_two_within(&self, places: PlaceSet) -> bool {
-        let mut found = 0u32;
-        for index in 0..ROOM {
-            if index >= self.count {
-                return false;
-            }
-            let part = self.parts[index];
+    fn has_two_within(&self, places: S) -> bool {
+        let mut has_one = false;
+        for part in self.parts.as_slice() {
             if part.is_good && part.places.is_within(places) {
-                if found == 1 {
+                if has_one {
                     return true;
                 }
-                found = 1;
+                has_one = true;
             }
         }
         false
     }
 
     /// Marks the parts beside these places as bad.
-    fn spoil_beside(&mut self, places: PlaceSet) {
-        for index in 0..ROOM {
-            if index < self.count && self.parts[index].beside.meets(places) {
+    fn spoil_beside(&mut self, places: S) {
+        for index in 0..self.parts.len() {
+            if self.parts[index].beside.meets(places) {
                 self.parts[index].is_good = false;
             }
         }
@@ -109,17 +97,17 @@ impl Parts {
 
 /// What is known of the defender's stones when their chains have been found.
 #[derive(Clone, Copy)]
-struct Stones {
+struct Stones<S> {
     /// The stones on chains with a lasting liberty.
-    lasting: PlaceSet,
+    lasting: S,
     /// The places beside stones, and stones.
-    near: PlaceSet,
+    near: S,
 }
 
-impl Board {
+impl<S: PlaceSet> Board<S> {
     /// Whether no target can ever be taken, whatever the attacker plays: each is on a chain with a lasting liberty, or on one of a
     /// set of chains each of which has two eyes that only chains of the set surround.
-    pub(crate) fn lives(&self, defender: PlaceSet, parts: &mut LifeParts) -> bool {
+    pub(crate) fn lives(&self, defender: S, parts: &mut LifeParts<S>) -> bool {
         let Some(stones) = self.find_chains(defender, &mut parts.chains) else {
             return false;
         };
@@ -131,13 +119,11 @@ impl Board {
     }
 
     /// The defender's stones that can never be taken.
-    pub(crate) fn good(&self, defender: PlaceSet, parts: &mut LifeParts) -> PlaceSet {
+    pub(crate) fn good(&self, defender: S, parts: &mut LifeParts<S>) -> S {
         let Some(stones) = self.find_chains(defender, &mut parts.chains) else {
             return self.permanent(defender, Side::Defender);
         };
-        if self.find_eyes(defender, stones, &mut parts.eyes)
-            && self.are_good(PlaceSet::empty(), parts)
-        {
+        if self.find_eyes(defender, stones, &mut parts.eyes) && self.are_good(S::empty(), parts) {
             stones.lasting.or(good_places(&parts.chains))
         } else {
             stones.lasting
@@ -145,19 +131,19 @@ impl Board {
     }
 
     /// Finds the defender's chains without a lasting liberty. `None` if they are more than are looked at.
-    fn find_chains(&self, defender: PlaceSet, chains: &mut Parts) -> Option<Stones> {
+    fn find_chains(&self, defender: S, chains: &mut Parts<S>) -> Option<Stones<S>> {
         chains.clear();
         let mut stones = Stones {
-            lasting: PlaceSet::empty(),
-            near: PlaceSet::empty(),
+            lasting: S::empty(),
+            near: S::empty(),
         };
-        let mut rest = defender.places();
+        let mut rest = defender;
         for _ in 0..u64::MAX {
-            let Some(at) = rest.take() else {
+            let Some(at) = rest.take_first() else {
                 return Some(stones);
             };
             let (chain, near) = self.chain_and_near(defender, at);
-            rest.skip(chain);
+            rest = rest.minus(chain);
             stones.near = stones.near.or(near);
             if chain.meets(self.lasting.defender) {
                 stones.lasting = stones.lasting.or(chain);
@@ -169,12 +155,8 @@ impl Board {
     }
 
     /// Whether each chain with one of these stones may have two eyes.
-    fn may_have_eyes(&self, defender: PlaceSet, asked: PlaceSet, chains: &Parts) -> bool {
-        for index in 0..ROOM {
-            if index >= chains.count {
-                return true;
-            }
-            let chain = chains.parts[index];
+    fn may_have_eyes(&self, defender: S, asked: S, chains: &Parts<S>) -> bool {
+        for chain in chains.parts.as_slice() {
             if chain.places.meets(asked) && !self.may_have_two_eyes(defender, chain.beside) {
                 return false;
             }
@@ -184,7 +166,7 @@ impl Board {
 
     /// Whether two areas can be eyes of a chain that has these places beside it: all points of an eye are among them, and beside
     /// the eye are only stones of the defender.
-    fn may_have_two_eyes(&self, defender: PlaceSet, beside: PlaceSet) -> bool {
+    fn may_have_two_eyes(&self, defender: S, beside: S) -> bool {
         let own = beside.minus(self.lasting.attacker);
         let eyes = own.minus(self.connected(self.open_places(own, defender), own));
         match eyes.first() {
@@ -194,14 +176,10 @@ impl Board {
     }
 
     /// Those of these places that have others beside them than these and the defender's stones.
-    fn open_places(&self, places: PlaceSet, defender: PlaceSet) -> PlaceSet {
+    fn open_places(&self, places: S, defender: S) -> S {
         let closed = places.or(defender);
-        let mut found = PlaceSet::empty();
-        let mut rest = places.places();
-        for _ in 0..u64::MAX {
-            let Some(at) = rest.take() else {
-                return found;
-            };
+        let mut found = S::empty();
+        for at in places.places() {
             if !self.near(at).is_within(closed) {
                 found = found.with(at);
             }
@@ -212,16 +190,16 @@ impl Board {
     /// Finds the areas that can be eyes: all their points are beside stones of the defender. One of them is empty, since stones of the
     /// attacker that filled an area would have no liberty. Returns whether there are two areas or more, and no more than are looked
     /// at.
-    fn find_eyes(&self, defender: PlaceSet, stones: Stones, eyes: &mut Parts) -> bool {
+    fn find_eyes(&self, defender: S, stones: Stones<S>, eyes: &mut Parts<S>) -> bool {
         eyes.clear();
         let candidates = stones.near.minus(defender).minus(self.lasting.attacker);
-        let mut rest = candidates.places();
+        let mut rest = candidates;
         for _ in 0..u64::MAX {
-            let Some(at) = rest.take() else {
+            let Some(at) = rest.take_first() else {
                 break;
             };
             let (area, near) = self.chain_and_near(candidates, at);
-            rest.skip(area);
+            rest = rest.minus(area);
             let beside = near.minus(area);
             if beside.is_within(defender) && area.len() <= MAX_EYE {
                 if !eyes.add(area, beside) {
@@ -229,12 +207,12 @@ impl Board {
                 }
             }
         }
-        eyes.count >= 2
+        eyes.parts.len() >= 2
     }
 
     /// Leaves out the chains that do not have two eyes, until all that are left have. Returns whether those with the stones that are
     /// asked about are left.
-    fn are_good(&self, asked: PlaceSet, parts: &mut LifeParts) -> bool {
+    fn are_good(&self, asked: S, parts: &mut LifeParts<S>) -> bool {
         for _ in 0..=ROOM {
             match spoil_chains(&mut parts.chains, &mut parts.eyes, asked) {
                 Some(true) => {}
@@ -248,12 +226,9 @@ impl Board {
 
 /// Marks the chains that do not have two eyes as bad, and the eyes beside them. Returns whether there were any, or `None` if one of
 /// them has a stone that is asked about.
-fn spoil_chains(chains: &mut Parts, eyes: &mut Parts, asked: PlaceSet) -> Option<bool> {
+fn spoil_chains<S: PlaceSet>(chains: &mut Parts<S>, eyes: &mut Parts<S>, asked: S) -> Option<bool> {
     let mut has_changed = false;
-    for index in 0..ROOM {
-        if index >= chains.count {
-            return Some(has_changed);
-        }
+    for index in 0..chains.parts.len() {
         let chain = chains.parts[index];
         if chain.is_good && !eyes.has_two_within(chain.beside) {
             if chain.places.meets(asked) {
@@ -268,11 +243,11 @@ fn spoil_chains(chains: &mut Parts, eyes: &mut Parts, asked: PlaceSet) -> Option
 }
 
 /// The places of the good parts.
-fn good_places(parts: &Parts) -> PlaceSet {
-    let mut found = PlaceSet::empty();
-    for index in 0..ROOM {
-        if index < parts.count && parts.parts[index].is_good {
-            found = found.or(parts.parts[index].places);
+fn good_places<S: PlaceSet>(parts: &Parts<S>) -> S {
+    let mut found = S::empty();
+    for part in parts.parts.as_slice() {
+        if part.is_good {
+            found = found.or(part.places);
         }
     }
     found

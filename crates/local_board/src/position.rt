@@ -29,30 +29,38 @@ pub enum Step {
 
 /// The places of each side: its stones, or what is true of them.
 #[derive(Clone, Copy, Debug, PartialEq, Eq)]
-pub struct Position {
-    pub attacker: PlaceSet,
-    pub defender: PlaceSet,
+pub struct Position<S> {
+    pub attacker: S,
+    pub defender: S,
 }
 
-impl Position {
+impl<S: PlaceSet> Position<S> {
     /// Neither side has a place.
-    pub fn empty() -> Position {
+    pub fn empty() -> Position<S> {
         Position {
-            attacker: PlaceSet::empty(),
-            defender: PlaceSet::empty(),
+            attacker: S::empty(),
+            defender: S::empty(),
         }
     }
 
     /// The places of this side.
-    pub fn of(self, side: Side) -> PlaceSet {
+    pub fn of(self, side: Side) -> S {
         match side {
             Side::Attacker => self.attacker,
             Side::Defender => self.defender,
         }
     }
 
+    /// Whether the side has this place.
+    pub fn has(&self, side: Side, place: usize) -> bool {
+        match side {
+            Side::Attacker => self.attacker.has(place),
+            Side::Defender => self.defender.has(place),
+        }
+    }
+
     /// The position in which the side has the places `own`, and the other side the places `other`.
-    pub fn made(side: Side, own: PlaceSet, other: PlaceSet) -> Position {
+    pub fn made(side: Side, own: S, other: S) -> Position<S> {
         match side {
             Side::Attacker => Position {
                 attacker: own,
@@ -66,7 +74,7 @@ impl Position {
     }
 
     /// The position with one more stone.
-    pub fn with(self, side: Side, place: usize) -> Position {
+    pub fn with(self, side: Side, place: usize) -> Position<S> {
         Position::made(side, self.of(side).with(place), self.of(side.other()))
     }
 
@@ -76,7 +84,7 @@ impl Position {
     }
 
     /// The places where either side has a stone.
-    pub fn stones(self) -> PlaceSet {
+    pub fn stones(self) -> S {
         self.attacker.or(self.defender)
     }
 }

@@ -24,11 +24,11 @@ impl Room {
     }
 }
 
-impl Board {
+impl<S: PlaceSet> Board<S> {
     /// How much a living defender has left to do. First the sum of the points of the areas between his chains, less one for each
     /// area (if the attacker has lasting stones, only the empty points of the region), the attacker's moves, the defender's chains,
     /// and his stones that can be taken; then the attacker's moves alone.
-    pub(crate) fn room_of_life(&self, position: Position, parts: &mut LifeParts) -> Room {
+    pub(crate) fn room_of_life(&self, position: Position<S>, parts: &mut LifeParts<S>) -> Room {
         let defender = position.defender;
         let moves = self.count_moves(position, Side::Attacker);
         let good = self.good(defender, parts);
@@ -44,17 +44,17 @@ impl Board {
         }
     }
 
-    fn points_of_areas(&self, position: Position) -> u32 {
+    fn points_of_areas(&self, position: Position<S>) -> u32 {
         let others = self.all.minus(position.defender);
         let playable = self.empty(position).and(self.region);
         let mut count: u32 = 0;
-        let mut rest = others.places();
+        let mut rest = others;
         for _ in 0..u64::MAX {
-            let Some(at) = rest.take() else {
+            let Some(at) = rest.take_first() else {
                 return count;
             };
             let area = self.chain(others, at);
-            rest.skip(area);
+            rest = rest.minus(area);
             let own = if area.meets(self.lasting.attacker) {
                 area.and(playable).len()
             } else {
@@ -65,29 +65,25 @@ impl Board {
         count
     }
 
-    fn count_chains(&self, stones: PlaceSet) -> u32 {
+    fn count_chains(&self, stones: S) -> u32 {
         let mut count: u32 = 0;
-        let mut rest = stones.places();
+        let mut rest = stones;
         for _ in 0..u64::MAX {
-            let Some(at) = rest.take() else {
+            let Some(at) = rest.take_first() else {
                 return count;
             };
-            rest.skip(self.chain(stones, at));
+            rest = rest.minus(self.chain(stones, at));
             count = count.saturating_add(1);
         }
         count
     }
 
     /// How many moves of this side change anything, whatever has occurred before.
-    pub fn count_moves(&self, position: Position, side: Side) -> u32 {
+    pub fn count_moves(&self, position: Position<S>, side: Side) -> u32 {
         let playable = self.empty(position).and(self.region);
-        let plain = self.plain(position).of(side).and(playable);
-        let mut count = plain.len();
-        let mut rest = playable.minus(plain).places();
-        for _ in 0..u64::MAX {
-            let Some(at) = rest.take() else {
-                return count;
-            };
+        let quiet = self.quiet(position).of(side).and(playable);
+        let mut count = quiet.len();
+        for at in playable.minus(quiet).places() {
             if self.after(position, side, at) != position {
                 count = count.saturating_add(1);
             }
@@ -98,7 +94,7 @@ impl Board {
     /// How much is left after the attacker's stone at this place, if the defender cannot have two eyes. First the sum of twice the
     /// fewest liberties of a chain with a target, the defender's moves that change anything, and one if the stone can still be
     /// taken; then the liberties; then the moves.
-    pub fn room_of_death(&self, position: Position, place: usize) -> Room {
+    pub fn room_of_death(&self, position: Position<S>, place: usize) -> Room {
         let moves = self.count_moves(position, Side::Defender);
         let liberties = self.fewest_liberties(position);
         let is_permanent = self.permanent(position.attacker, Side::Attacker).has(place);
@@ -114,14 +110,10 @@ impl Board {
     }
 
     /// The fewest liberties of a chain with a target that can be taken.
-    fn fewest_liberties(&self, position: Position) -> u32 {
+    fn fewest_liberties(&self, position: Position<S>) -> u32 {
         let empty = self.empty(position);
         let mut fewest: u32 = 99;
-        let mut rest = self.heads.and(position.defender).places();
-        for _ in 0..u64::MAX {
-            let Some(at) = rest.take() else {
-                return fewest;
-            };
+        for at in self.heads.and(position.defender).places() {
             let chain = self.chain(position.defender, at);
             if !chain.meets(self.lasting.defender) {
                 fewest = fewest.min(self.beside(chain).and(empty).len());

@@ -11,41 +11,41 @@ use std::alloc::Global;
 
 /// What depends only on the attacker's permanent stones.
 #[derive(Clone, Copy)]
-struct Reached {
-    inside: PlaceSet,
-    near: PlaceSet,
+struct Reached<S> {
+    inside: S,
+    near: S,
 }
 
 /// A board, and the latest answers.
 #[derive(Drop)]
-pub struct Shapes {
-    pub board: Board,
+pub struct Shapes<S> {
+    pub board: Board<S>,
     /// The permanent ones of the attacker's stones.
-    held: Latest<PlaceSet, PlaceSet>,
+    held: Latest<S, S>,
     /// What the attacker's permanent stones reach.
-    reached: Latest<PlaceSet, Reached>,
+    reached: Latest<S, Reached<S>>,
     /// Whether the defender's stones live.
-    living: Latest<PlaceSet, bool>,
-    asked: Latest<Position, Eyes>,
-    parts: LifeParts,
+    living: Latest<S, bool>,
+    asked: Latest<Position<S>, Eyes>,
+    parts: LifeParts<S>,
 }
 
-impl Shapes {
+impl<S: PlaceSet> Shapes<S> {
     /// The questions about this board. None has been asked yet.
-    pub fn of(alloc: Global, board: Board) -> Shapes {
+    pub fn of(alloc: Global, board: Board<S>) -> Shapes<S> {
         Shapes {
             board,
             held: Latest::new(alloc),
             reached: Latest::new(alloc),
             living: Latest::new(alloc),
             asked: Latest::new(alloc),
-            parts: LifeParts::none(),
+            parts: LifeParts::none(alloc),
         }
     }
 
     /// Whether the defender's stones live by their shape, in whatever position: stones of the attacker that filled an eye would have
     /// no liberty.
-    pub fn may_live(&mut self, defender: PlaceSet) -> bool {
+    pub fn may_live(&mut self, defender: S) -> bool {
         let mixed = defender.mixed();
         if let Some(lives) = self.living.find(mixed, defender) {
             return lives;
@@ -56,17 +56,17 @@ impl Shapes {
     }
 
     /// Whether no target can ever be taken, by the shape of the defender's stones. It is `false` if a target is off the board.
-    pub fn is_alive(&mut self, position: Position) -> bool {
+    pub fn is_alive(&mut self, position: Position<S>) -> bool {
         !self.board.is_taken(position) && self.may_live(position.defender)
     }
 
     /// How much a living defender has left to do.
-    pub fn room_of_life(&mut self, position: Position) -> Room {
+    pub fn room_of_life(&mut self, position: Position<S>) -> Room {
         self.board.room_of_life(position, &mut self.parts)
     }
 
     /// A guess about the defender's eyes when he is to move.
-    pub fn eyes(&mut self, position: Position) -> Eyes {
+    pub fn eyes(&mut self, position: Position<S>) -> Eyes {
         let mixed = position.mixed();
         if let Some(eyes) = self.asked.find(mixed, position) {
             return eyes;
@@ -81,7 +81,7 @@ impl Shapes {
     }
 
     /// The permanent ones of the attacker's stones.
-    fn permanent(&mut self, attacker: PlaceSet) -> PlaceSet {
+    fn permanent(&mut self, attacker: S) -> S {
         let mixed = attacker.mixed();
         if let Some(permanent) = self.held.find(mixed, attacker) {
             return permanent;
@@ -92,7 +92,7 @@ impl Shapes {
     }
 
     /// What the attacker's permanent stones reach.
-    fn reached_by(&mut self, permanent: PlaceSet) -> Reached {
+    fn reached_by(&mut self, permanent: S) -> Reached<S> {
         let mixed = permanent.mixed();
         if let Some(reached) = self.reached.find(mixed, permanent) {
             return reached;

@@ -4,19 +4,29 @@ use crate::board::Board;
 use crate::place_set::PlaceSet;
 use crate::position::{Position, Side};
 
-/// What is known of the chains of a side.
+/// What is known of the chains of a side that are beside empty places.
 #[derive(Clone, Copy)]
-struct Liberties {
+struct Chains<S> {
     /// The liberties of chains that can be taken and have only one.
-    last: PlaceSet,
-    /// The places beside the stones of all other chains.
-    strong: PlaceSet,
+    last: S,
+    /// Stones of all other chains, among them all that are beside an empty place.
+    strong: S,
 }
 
-impl Board {
+/// The stones of a chain that were looked at: all of them, unless the chain is seen to be strong before.
+#[derive(Clone, Copy)]
+struct Looked<S> {
+    stones: S,
+    /// Their liberties.
+    liberties: S,
+    /// Whether the chain has two liberties, or can never be taken.
+    is_strong: bool,
+}
+
+impl<S: PlaceSet> Board<S> {
     /// The position after a stone of this side at the empty place, by the rules of capture and suicide. It is the same position if
     /// a single stone takes itself off.
-    pub fn after(&self, position: Position, side: Side, place: usize) -> Position {
+    pub fn after(&self, position: Position<S>, side: Side, place: usize) -> Position<S> {
         let own = position.of(side).with(place);
         let other = position.of(side.other());
         let empty = self.all.minus(own).minus(other);
@@ -31,115 +41,133 @@ impl Board {
     }
 
     /// The stones of this side's chains beside the place that have no liberty.
-    fn taken_beside(
-        &self,
-        place: usize,
-        stones: PlaceSet,
-        empty: PlaceSet,
-        side: Side,
-    ) -> PlaceSet {
-        let mut taken = PlaceSet::empty();
-        let mut rest = self.near(place).and(stones).places();
+    fn taken_beside(&self, place: usize, stones: S, empty: S, side: Side) -> S {
+        let mut taken = S::empty();
+        let mut rest = self.near(place).and(stones);
         for _ in 0..u64::MAX {
-            let Some(at) = rest.take() else {
+            let Some(at) = rest.take_first() else {
                 return taken;
             };
             if let Some(chain) = self.chain_without_liberty(stones, empty, at, side) {
                 taken = taken.or(chain);
-                rest.skip(chain);
+                rest = rest.minus(chain);
             }
         }
         taken
     }
 
     /// The chain of the stone at this place, if it has no liberty.
-    fn chain_without_liberty(
-        &self,
-        own: PlaceSet,
-        empty: PlaceSet,
-        place: usize,
-        side: Side,
-    ) -> Option<PlaceSet> {
+    fn chain_without_liberty(&self, own: S, empty: S, place: usize, side: Side) -> Option<S> {
         let lasting = self.lasting.of(side);
         if lasting.has(place) {
             return None;
         }
-        let mut chain = PlaceSet::empty().with(place);
-        let mut front = chain.places();
+        let mut chain = S::empty().with(place);
+        let mut front = chain;
         for _ in 0..u64::MAX {
-            let Some(at) = front.take() else {
-                return Some(chain);
-            };
-            let near = self.near(at);
-            let more = near.and(own).minus(chain);
-            if near.meets(empty) || more.meets(lasting) {
+            let near = self.all_beside_but(front, empty)?;
+            front = near.and(own).minus(chain);
+            if front.meets(lasting) {
                 return None;
             }
-            chain = chain.or(more);
-            front.add(more);
+            if front.is_empty() {
+                return Some(chain);
+            }
+            chain = chain.or(front);
         }
         None
     }
 
     /// For each side, the empty places where its stone takes nothing and has a liberty: the stone is put down, and nothing else
-    /// changes.
-    pub fn plain(&self, position: Position) -> Position {
+    /// changes. Chains are looked at from their liberties, so on a full board most stones are not looked at.
+    pub fn quiet(&self, position: Position<S>) -> Position<S> {
         let empty = self.empty(position);
-        let attacker = self.liberties(position.attacker, empty, Side::Attacker);
-        let defender = self.liberties(position.defender, empty, Side::Defender);
-        let open = self.all_beside(empty);
+        let (open, wide) = self.beside_one_and_several(empty);
+        let attacker = self.chains(position, Side::Attacker, open, wide);
+        let defender = self.chains(position, Side::Defender, open, wide);
+        let closed = empty.minus(open);
+        let closed_attacker = closed.minus(self.lasting.attacker);
+        let closed_defender = closed.minus(self.lasting.defender);
         Position {
-            attacker: self.plain_for(position, Side::Attacker, open, attacker, defender),
-            defender: self.plain_for(position, Side::Defender, open, defender, attacker),
+            attacker: empty
+                .minus(defender.last)
+                .minus(self.away_from(closed_attacker, attacker.strong)),
+            defender: empty
+                .minus(attacker.last)
+                .minus(self.away_from(closed_defender, defender.strong)),
         }
     }
 
-    fn plain_for(
-        &self,
-        position: Position,
-        side: Side,
-        open: PlaceSet,
-        own: Liberties,
-        other: Liberties,
-    ) -> PlaceSet {
-        let safe = open.or(self.lasting.of(side)).or(own.strong);
-        self.empty(position).minus(other.last).and(safe)
-    }
-
-    /// What is known of the chains of this side.
-    fn liberties(&self, own: PlaceSet, empty: PlaceSet, side: Side) -> Liberties {
-        let lasting = self.lasting.of(side);
-        let mut found = Liberties {
-            last: PlaceSet::empty(),
-            strong: PlaceSet::empty(),
-        };
-        let mut rest = own.places();
-        for _ in 0..u64::MAX {
-            let Some(at) = rest.take() else {
-                return found;
-            };
-            let (chain, near) = self.chain_and_near(own, at);
-            rest.skip(chain);
-            let liberties = near.and(empty);
-            if liberties.has_several() || chain.meets(lasting) {
-                found.strong = found.strong.or(near);
-            } else {
-                found.last = found.last.or(liberties);
+    /// Those of the places that have none of these stones beside them.
+    fn away_from(&self, places: S, stones: S) -> S {
+        let mut found = S::empty();
+        for at in places.places() {
+            if !self.near(at).meets(stones) {
+                found = found.with(at);
             }
         }
         found
     }
 
-    /// The position after a stone of this side at the empty place. `None` if nothing changes. `plain` has places where a stone is
+    /// What is known of this side's chains. `open` has the places beside empty ones, and `wide` those beside several.
+    fn chains(&self, position: Position<S>, side: Side, open: S, wide: S) -> Chains<S> {
+        let own = position.of(side);
+        let empty = self.empty(position);
+        let mut last = S::empty();
+        let mut strong = own.and(wide.or(self.lasting.of(side)));
+        let mut rest = own.and(open).minus(strong);
+        for _ in 0..u64::MAX {
+            let Some(at) = rest.take_first() else {
+                break;
+            };
+            let looked = self.look_at_chain(own, empty, strong, at);
+            rest = rest.minus(looked.stones);
+            if looked.is_strong {
+                strong = strong.or(looked.stones);
+            } else {
+                last = last.or(looked.liberties);
+            }
+        }
+        Chains { last, strong }
+    }
+
+    /// Looks at the stones of the chain at this place, the nearest first, until it has two liberties or one of the stones that are
+    /// known to be strong.
+    fn look_at_chain(&self, own: S, empty: S, strong: S, place: usize) -> Looked<S> {
+        let mut stones = S::empty().with(place);
+        let mut front = stones;
+        let mut liberties = S::empty();
+        for _ in 0..u64::MAX {
+            let near = self.all_beside(front);
+            liberties = liberties.or(near.and(empty));
+            front = near.and(own).minus(stones);
+            let is_strong = liberties.has_several() || front.meets(strong);
+            if is_strong || front.is_empty() {
+                return Looked {
+                    stones,
+                    liberties,
+                    is_strong,
+                };
+            }
+            stones = stones.or(front);
+        }
+        Looked {
+            stones,
+            liberties,
+            is_strong: true,
+        }
+    }
+
+    /// The position after a stone of this side at the empty place. `None` if nothing changes. `quiet` has places where a stone is
     /// put down and nothing else changes.
     pub fn played(
         &self,
-        position: Position,
+        position: Position<S>,
         side: Side,
         place: usize,
-        plain: PlaceSet,
-    ) -> Option<Position> {
-        if plain.has(place) {
+        quiet: S,
+    ) -> Option<Position<S>> {
+        if quiet.has(place) {
             return Some(position.with(side, place));
         }
         let after = self.after(position, side, place);
@@ -149,13 +177,13 @@ impl Board {
     /// The key of that position, from the key of this one.
     pub fn played_key(
         &self,
-        position: Position,
+        position: Position<S>,
         key: u64,
         side: Side,
         place: usize,
-        plain: PlaceSet,
+        quiet: S,
     ) -> Option<u64> {
-        if plain.has(place) {
+        if quiet.has(place) {
             return Some(key ^ self.word(side, place));
         }
         let after = self.after(position, side, place);
@@ -166,39 +194,16 @@ impl Board {
     }
 
     /// The places where the attacker takes a target at once.
-    pub fn takes(&self, position: Position) -> PlaceSet {
+    pub fn takes(&self, position: Position<S>) -> S {
         let empty = self.empty(position);
-        let mut found = PlaceSet::empty();
-        let mut rest = self.heads.and(position.defender).places();
-        for _ in 0..u64::MAX {
-            let Some(at) = rest.take() else {
-                return found;
-            };
-            let last = self.last_liberty(position.defender, empty, at);
-            found = found.or(last.and(self.region));
+        let mut found = S::empty();
+        let lasting = self.lasting.defender;
+        for at in self.heads.and(position.defender).minus(lasting).places() {
+            let looked = self.look_at_chain(position.defender, empty, lasting, at);
+            if !looked.is_strong {
+                found = found.or(looked.liberties.and(self.region));
+            }
         }
         found
-    }
-
-    /// The only liberty of the defender's chain at this place. The set is empty if the chain has more liberties, or can never be
-    /// taken.
-    fn last_liberty(&self, own: PlaceSet, empty: PlaceSet, place: usize) -> PlaceSet {
-        let mut chain = PlaceSet::empty().with(place);
-        let mut front = chain.places();
-        let mut liberties = PlaceSet::empty();
-        for _ in 0..u64::MAX {
-            let Some(at) = front.take() else {
-                break;
-            };
-            let near = self.near(at);
-            liberties = liberties.or(near.and(empty));
-            if liberties.has_several() || self.lasting.defender.has(at) {
-                return PlaceSet::empty();
-            }
-            let more = near.and(own).minus(chain);
-            chain = chain.or(more);
-            front.add(more);
-        }
-        liberties
     }
 }

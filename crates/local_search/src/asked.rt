@@ -4,7 +4,7 @@ ghost use Rattle.std.specs.Prelude.{◌≡◌};
 
 use crate::expanding::step_at;
 use crate::finish::Finish;
-use crate::frame::State;
+use crate::frame::{State, place_added, side_of};
 use crate::smaller::Smaller;
 use local_board::{PlaceSet, Room, Side, Step};
 use state_proofs::{Below, Branch, Proof};
@@ -25,9 +25,9 @@ pub(crate) enum Question {
 
 /// A turn at a state of the line, and the state after it.
 #[derive(Clone, Copy)]
-pub(crate) struct Asked {
+pub(crate) struct Asked<S> {
     pub(crate) step: Step,
-    pub(crate) after: State,
+    pub(crate) after: State<S>,
     pub(crate) question: Question,
 }
 
@@ -69,13 +69,13 @@ impl LivingTurns {
     }
 }
 
-impl Smaller {
+impl<S: PlaceSet> Smaller<S> {
     /// Lists the turns of the winner, who is to move, that may be better. If a turn ends the game, it is the only one. Otherwise
     /// the proof's own turn comes first, then those after which the defender lives, then the others.
     pub(crate) fn list_turns(
         &mut self,
-        finish: &mut Finish,
-        state: State,
+        finish: &mut Finish<S>,
+        state: State<S>,
         proof: Proof,
     ) -> Result<(), AllocError>
         ensures steps { finish.new.steps ≡ finish.old.steps }
@@ -96,7 +96,7 @@ impl Smaller {
         self.list_others(finish, state, own_step, living)
     }
 
-    fn ask(&mut self, step: Step, after: State, question: Question) -> Result<(), AllocError> {
+    fn ask(&mut self, step: Step, after: State<S>, question: Question) -> Result<(), AllocError> {
         self.asked.push(Asked {
             step,
             after,
@@ -108,14 +108,14 @@ impl Smaller {
     /// Lists the best turns after which the defender, who is the winner, lives by his shape, and returns the places of all of them.
     fn list_living(
         &mut self,
-        finish: &mut Finish,
-        state: State,
+        finish: &mut Finish<S>,
+        state: State<S>,
         own: Option<Step>,
-    ) -> Result<PlaceSet, AllocError>
+    ) -> Result<S, AllocError>
         ensures steps { finish.new.steps ≡ finish.old.steps }
     {
-        if finish.search.side(state.key.mover) == Side::Attacker {
-            return Ok(PlaceSet::empty());
+        if side_of(finish.search.attacker, state.key.mover) == Side::Attacker {
+            return Ok(S::empty());
         }
         let mut best = LivingTurns::none();
         let found = find_living(finish, state, own, &mut best);
@@ -132,17 +132,13 @@ impl Smaller {
     /// Lists the winner's other turns.
     fn list_others(
         &mut self,
-        finish: &Finish,
-        state: State,
+        finish: &Finish<S>,
+        state: State<S>,
         own: Option<Step>,
-        living: PlaceSet,
+        living: S,
     ) -> Result<(), AllocError> {
-        let side = finish.search.side(state.key.mover);
-        let mut rest = finish.playable(state).minus(living).places();
-        for _ in 0..u64::MAX {
-            let Some(place) = rest.take() else {
-                break;
-            };
+        let side = side_of(finish.search.attacker, state.key.mover);
+        for place in finish.playable(state).minus(living).places() {
             let after = finish.search.after_move_at(state, side, place);
             let is_legal = after.position != state.position
                 && !finish.search.past.has(after.key.position);
@@ -161,8 +157,8 @@ impl Smaller {
     /// Lists the replies of the proof that are legal here.
     pub(crate) fn list_replies(
         &mut self,
-        finish: &Finish,
-        state: State,
+        finish: &Finish<S>,
+        state: State<S>,
         proof: Proof,
     ) -> Result<(), AllocError> {
         for place in 0..finish.search.proofs.branches(proof).len() {
@@ -175,8 +171,8 @@ impl Smaller {
 
     fn list_reply(
         &mut self,
-        finish: &Finish,
-        state: State,
+        finish: &Finish<S>,
+        state: State<S>,
         branch: Branch,
     ) -> Result<(), AllocError> {
         let turn = branch.turn;
@@ -200,34 +196,29 @@ fn question_below(branch: Branch) -> Question {
 }
 
 /// The turn by which the winner, who is to move, ends the game at once.
-fn ending_turn(finish: &Finish, state: State) -> Option<(Step, State)> {
-    if finish.search.side(state.key.mover) == Side::Defender {
+fn ending_turn<S: PlaceSet>(finish: &Finish<S>, state: State<S>) -> Option<(Step, State<S>)> {
+    if side_of(finish.search.attacker, state.key.mover) == Side::Defender {
         if state.key.passes == 0 {
             return None;
         }
         return Some((Step::Pass, finish.search.after(state, Step::Pass)));
     }
     let after = finish.search.taking_turn(state)?;
-    let added = after.position.attacker.minus(state.position.attacker);
-    let place = added.first()?;
+    let place = place_added(&state, &after)?;
     Some((step_at(place), after))
 }
 
 /// The places where the defender's move leaves him alive by his shape, except his own turn. The best of them are noted.
-fn find_living(
-    finish: &mut Finish,
-    state: State,
+fn find_living<S: PlaceSet>(
+    finish: &mut Finish<S>,
+    state: State<S>,
     own: Option<Step>,
     best: &mut LivingTurns,
-) -> PlaceSet
+) -> S
     ensures steps { finish.new.steps ≡ finish.old.steps }
 {
-    let mut found = PlaceSet::empty();
-    let mut rest = finish.playable(state).places();
-    for _ in 0..u64::MAX {
-        let Some(place) = rest.take() else {
-            return found;
-        };
+    let mut found = S::empty();
+    for place in finish.playable(state).places() {
         if own != Some(step_at(place)) && lives_after(finish, state, place) {
             let after = finish.search.after_move_at(state, Side::Defender, place);
             let room = finish.search.shapes.room_of_life(after.position);
@@ -239,7 +230,7 @@ fn find_living(
 }
 
 /// Whether the defender's move at this place is legal and leaves him alive by his shape.
-fn lives_after(finish: &mut Finish, state: State, place: usize) -> bool
+fn lives_after<S: PlaceSet>(finish: &mut Finish<S>, state: State<S>, place: usize) -> bool
     ensures steps { finish.new.steps ≡ finish.old.steps }
 {
     let after = finish.search.after_move_at(state, Side::Defender, place);

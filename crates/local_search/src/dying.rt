@@ -7,9 +7,9 @@ ghost use Rattle.state_proofs.specs.Work.{work};
 
 use crate::expanding::step_at;
 use crate::finish::{Due, Entered, Finish, Goal, Needed};
-use crate::frame::State;
+use crate::frame::{State, side_of};
 use crate::values::Turned;
-use local_board::{Side, Step};
+use local_board::{PlaceSet, Side, Step};
 use state_proofs::{Form, Stop};
 use std::alloc::AllocError;
 
@@ -68,10 +68,10 @@ fn is_before(turn: Turned, other: Option<Turned>) -> bool {
     }
 }
 
-impl Finish {
+impl<S: PlaceSet> Finish<S> {
     /// Begins with a state where the defender cannot have two eyes. Each such state is a step, if it has no proof yet. It fails if
     /// the state was wrongly taken for dead, or is not dead with this past.
-    pub(crate) fn enter_death(&mut self, state: State) -> Result<Entered, Stop>
+    pub(crate) fn enter_death(&mut self, state: State<S>) -> Result<Entered, Stop>
         ensures step { IfOk result (λ e. e ≡ Begun
             → self.new.steps.left + 1 ≡ self.old.steps.left) }
         ensures work { work self.new.steps ≤ work self.old.steps }
@@ -82,7 +82,7 @@ impl Finish {
             }
             return Ok(Entered::Failed);
         }
-        if self.search.side(state.key.mover) == Side::Attacker {
+        if side_of(self.search.attacker, state.key.mover) == Side::Attacker {
             self.steps.take()?;
             return self.begin_attack(state);
         }
@@ -100,7 +100,7 @@ impl Finish {
     }
 
     /// Begins with the attacker's turn: he takes a target, goes to a state that is proved, or fills a point.
-    fn begin_attack(&mut self, state: State) -> Result<Entered, Stop>
+    fn begin_attack(&mut self, state: State<S>) -> Result<Entered, Stop>
         ensures steps { self.new.steps ≡ self.old.steps }
     {
         if self.search.taking_turn(state).is_some() {
@@ -118,7 +118,7 @@ impl Finish {
     }
 
     /// Lists the attacker's best turns as due.
-    fn list_best_turns(&mut self, state: State) -> Result<(), AllocError>
+    fn list_best_turns(&mut self, state: State<S>) -> Result<(), AllocError>
         ensures steps { self.new.steps ≡ self.old.steps }
     {
         let best = self.best_turns(state);
@@ -133,7 +133,7 @@ impl Finish {
     }
 
     /// Among the attacker's turns after which the defender cannot have two eyes, those that leave least to play.
-    fn best_turns(&mut self, state: State) -> BestTurns
+    fn best_turns(&mut self, state: State<S>) -> BestTurns
         ensures steps { self.new.steps ≡ self.old.steps }
     {
         let mut best = BestTurns {
@@ -141,11 +141,7 @@ impl Finish {
             second: None,
             third: None,
         };
-        let mut rest = self.playable(state).places();
-        for _ in 0..u64::MAX {
-            let Some(place) = rest.take() else {
-                return best;
-            };
+        for place in self.playable(state).places() {
             if let Some(turn) = self.turn_of_death(state, place) {
                 best = best.with(turn);
             }
@@ -154,7 +150,7 @@ impl Finish {
     }
 
     /// The attacker's move at this place, with what it leaves to play, if the defender cannot have two eyes after it.
-    fn turn_of_death(&mut self, state: State, place: usize) -> Option<Turned>
+    fn turn_of_death(&mut self, state: State<S>, place: usize) -> Option<Turned>
         ensures steps { self.new.steps ≡ self.old.steps }
     {
         let after = self.search.after_move_at(state, Side::Attacker, place);

@@ -8,10 +8,10 @@ ghost use Rattle.std.specs.Prelude.{◌≡◌, ◌≤◌, ◌<◌, ◌+◌, fals
 ghost use Rattle.state_proofs.specs.Work.{work};
 
 use crate::expanding::step_at;
-use crate::frame::State;
+use crate::frame::{State, side_of};
 use crate::search::Search;
 use go_points::Colour;
-use local_board::{Side, Step};
+use local_board::{PlaceSet, Side, Step};
 use state_proofs::{Below, Branch, Form, Proof, Refusal, Settled, Steps, Stop, part_from};
 use std::alloc::{AllocError, Global};
 
@@ -61,8 +61,8 @@ pub(crate) enum Entered {
 
 /// A state of the line whose proof is made.
 #[derive(Clone, Copy)]
-pub(crate) struct Visit {
-    pub(crate) state: State,
+pub(crate) struct Visit<S> {
+    pub(crate) state: State<S>,
     pub(crate) winner: Colour,
     pub(crate) form: Form,
     pub(crate) needed: Needed,
@@ -77,18 +77,18 @@ pub(crate) struct Visit {
 
 /// The walk along the line.
 #[derive(Drop)]
-pub(crate) struct Finish {
-    pub(crate) search: Search,
+pub(crate) struct Finish<S> {
+    pub(crate) search: Search<S>,
     pub(crate) steps: Steps,
-    visits: Vec<Visit>,
+    visits: Vec<Visit<S>>,
     pub(crate) due: Vec<Due>,
     made: Vec<Branch>,
     /// The proofs that short searches made, by their places in the list. They may use what is known only by shape.
     pub(crate) helped: Vec<(usize, usize)>,
 }
 
-impl Finish {
-    pub(crate) fn of(alloc: Global, search: Search, left: u64) -> Finish {
+impl<S: PlaceSet> Finish<S> {
+    pub(crate) fn of(alloc: Global, search: Search<S>, left: u64) -> Finish<S> {
         Finish {
             search,
             steps: Steps::of(left, 0),
@@ -101,7 +101,7 @@ impl Finish {
 
     /// Makes what the goal says for the state at the end of the line, and returns the number of its proof. `None` if there is none
     /// by the rules. The line is then as it was.
-    pub(crate) fn make(&mut self, state: State, goal: Goal) -> Result<Option<u32>, Stop>
+    pub(crate) fn make(&mut self, state: State<S>, goal: Goal) -> Result<Option<u32>, Stop>
         ensures work { work self.new.steps ≤ work self.old.steps }
     {
         let turns = self.search.turns;
@@ -115,7 +115,7 @@ impl Finish {
     }
 
     /// The walk, which leaves the line where it ends.
-    fn walk(&mut self, state: State, goal: Goal) -> Result<Option<u32>, Stop>
+    fn walk(&mut self, state: State<S>, goal: Goal) -> Result<Option<u32>, Stop>
         ensures work { work self.new.steps ≤ work self.old.steps }
     {
         let mut entered = self.enter(state, goal)?;
@@ -133,7 +133,7 @@ impl Finish {
     }
 
     /// Begins with the state at the end of the line.
-    fn enter(&mut self, state: State, goal: Goal) -> Result<Entered, Stop>
+    fn enter(&mut self, state: State<S>, goal: Goal) -> Result<Entered, Stop>
         ensures work { work self.new.steps ≤ work self.old.steps }
     {
         match goal {
@@ -146,7 +146,7 @@ impl Finish {
     }
 
     /// Begins with a proof that was found.
-    fn enter_whole(&mut self, state: State, number: u32) -> Result<Entered, Stop>
+    fn enter_whole(&mut self, state: State<S>, number: u32) -> Result<Entered, Stop>
         ensures work { work self.new.steps ≤ work self.old.steps }
     {
         if let Some(known) = self.search.proof_here(state.key) {
@@ -164,7 +164,7 @@ impl Finish {
 
     /// Begins with the branches of a proof. A state that was settled by a question is expanded now, which is a step. The
     /// walk of another one's proof uses rounds that are paid for.
-    fn enter_branches(&mut self, state: State, proof: Proof) -> Result<Entered, Stop>
+    fn enter_branches(&mut self, state: State<S>, proof: Proof) -> Result<Entered, Stop>
         ensures step { OnOk result (proof.is_expanded ≡ false
             → self.new.steps.left + 1 ≡ self.old.steps.left) }
         ensures work { work self.new.steps ≤ work self.old.steps }
@@ -184,7 +184,7 @@ impl Finish {
     }
 
     /// Lists those branches of the proof that are legal here as due.
-    fn list_branches(&mut self, state: State, proof: Proof) -> Result<(), Stop>
+    fn list_branches(&mut self, state: State<S>, proof: Proof) -> Result<(), Stop>
         ensures steps { self.new.steps ≡ self.old.steps }
     {
         for place in 0..self.search.proofs.branches(proof).len() {
@@ -196,7 +196,7 @@ impl Finish {
     }
 
     /// Lists the branch as due, if it is legal here.
-    fn list_branch(&mut self, state: State, branch: Branch) -> Result<(), Stop>
+    fn list_branch(&mut self, state: State<S>, branch: Branch) -> Result<(), Stop>
         ensures steps { self.new.steps ≡ self.old.steps }
     {
         let turn = branch.turn;
@@ -220,7 +220,7 @@ impl Finish {
     /// Begins the visit of the state, whose turns are due from this place on.
     pub(crate) fn begin(
         &mut self,
-        state: State,
+        state: State<S>,
         winner: Colour,
         form: Form,
         needed: Needed,
@@ -259,7 +259,7 @@ impl Finish {
     }
 
     /// Follows a turn of the last state.
-    fn follow(&mut self, visit: Visit, due: Due) -> Result<Entered, Stop>
+    fn follow(&mut self, visit: Visit<S>, due: Due) -> Result<Entered, Stop>
         ensures work { work self.new.steps ≤ work self.old.steps }
     {
         let step = due.step;
@@ -344,21 +344,29 @@ impl Finish {
     }
 
     /// Makes the proof of the last state by the branches that were kept.
-    fn leave(&mut self, visit: Visit) -> Result<Entered, Stop>
+    fn leave(&mut self, visit: Visit<S>) -> Result<Entered, Stop>
         ensures steps { self.new.steps ≡ self.old.steps }
     {
-        self.search.barred.clear();
-        if visit.form == Form::Replies && visit.is_barred {
-            self.search.list_barred(visit.state)?;
-        }
+        self.list_barred(&visit)?;
         let reached = self.reached_by(visit);
         let number = self.add(visit, reached)?;
         self.drop_last();
         Ok(Entered::Done(number))
     }
 
+    /// Lists the positions after moves at the state that the past bars, if a proof of replies needs them.
+    fn list_barred(&mut self, visit: &Visit<S>) -> Result<(), AllocError>
+        ensures steps { self.new.steps ≡ self.old.steps }
+    {
+        self.search.barred.clear();
+        if visit.form == Form::Replies && visit.is_barred {
+            return self.search.list_barred(visit.state);
+        }
+        Ok(())
+    }
+
     /// The position after the winner's move.
-    fn reached_by(&self, visit: Visit) -> Option<u64> {
+    fn reached_by(&self, visit: Visit<S>) -> Option<u64> {
         if visit.form != Form::Turn {
             return None;
         }
@@ -373,7 +381,7 @@ impl Finish {
         }
     }
 
-    fn add(&mut self, visit: Visit, reached: Option<u64>) -> Result<u32, AllocError>
+    fn add(&mut self, visit: Visit<S>, reached: Option<u64>) -> Result<u32, AllocError>
         ensures steps { self.new.steps ≡ self.old.steps }
     {
         let settled = Settled::expanded(visit.state.key, visit.winner, visit.form);
@@ -383,7 +391,7 @@ impl Finish {
     }
 
     /// Searches the last state for a few steps, when the rule has no turn, and makes the attacker's proof that is found.
-    fn ask_for_help(&mut self, visit: Visit) -> Result<Entered, Stop>
+    fn ask_for_help(&mut self, visit: Visit<S>) -> Result<Entered, Stop>
         ensures work { work self.new.steps ≤ work self.old.steps }
     {
         self.drop_last();
@@ -410,7 +418,7 @@ impl Finish {
     /// Whether the attacker wins by the proof.
     pub(crate) fn is_attackers(&self, number: u32) -> bool {
         match self.search.proofs.get(number) {
-            Some(proof) => self.search.side(proof.winner) == Side::Attacker,
+            Some(proof) => side_of(self.search.attacker, proof.winner) == Side::Attacker,
             None => false,
         }
     }

@@ -2,14 +2,14 @@
 
 use crate::numbers::weighed;
 use go_points::Colour;
-use local_board::{Position, Step};
+use local_board::{PlaceSet, Position, Side, Step};
 use pn_table::Key;
 use state_proofs::{Count, MoverNumbers, Standing, Thresholds, key_after_move, key_after_pass};
 
 /// A state: the places of its stones, and its key.
 #[derive(Clone, Copy)]
-pub(crate) struct State {
-    pub(crate) position: Position,
+pub(crate) struct State<S> {
+    pub(crate) position: Position<S>,
     pub(crate) key: Key,
 }
 
@@ -47,15 +47,15 @@ pub(crate) struct Child {
     pub(crate) key: Key,
     pub(crate) outcome: Outcome,
     /// How many points are left there where the defender could have an eye, if that was asked.
-    pub(crate) many: Option<u8>,
+    pub(crate) eye_points: Option<u8>,
     /// How unlikely the turn is to win, in eighths: the number of the child is multiplied by this.
     pub(crate) weight: u32,
 }
 
 /// A state of the line. Its children come after those of the states above it, in one list for all.
 #[derive(Clone, Copy)]
-pub(crate) struct Frame {
-    pub(crate) state: State,
+pub(crate) struct Frame<S> {
+    pub(crate) state: State<S>,
     /// The turn before it.
     pub(crate) last: Step,
     pub(crate) thresholds: Thresholds,
@@ -65,6 +65,13 @@ pub(crate) struct Frame {
     pub(crate) current: usize,
     /// Whether the past bars a move.
     pub(crate) is_barred: bool,
+}
+
+/// The place of a stone of the attacker that the first state does not have, and the second has.
+pub(crate) fn place_added<S: PlaceSet>(before: &State<S>, after: &State<S>) -> Option<usize> {
+    let had = before.position.attacker;
+    let has = after.position.attacker;
+    has.minus(had).first()
 }
 
 /// What these children say of their state.
@@ -88,6 +95,15 @@ pub(crate) fn after_step(key: Key, step: Step, position: u64) -> Key {
     match step {
         Step::Pass => key_after_pass(key),
         Step::At(_) => key_after_move(key, position),
+    }
+}
+
+/// The side of this colour, if the attacker has that one.
+pub(crate) fn side_of(attacker: Colour, colour: Colour) -> Side {
+    if colour == attacker {
+        Side::Attacker
+    } else {
+        Side::Defender
     }
 }
 

@@ -21,19 +21,19 @@ pub(crate) enum Finding {
 }
 
 impl Finding {
-    pub(crate) fn of(many: Option<u8>, is_open: bool) -> Finding {
-        match many {
-            Some(many) if is_open => Finding::OpenWithEyes(many),
-            Some(many) => Finding::Eyes(many),
+    pub(crate) fn of(eye_points: Option<u8>, is_open: bool) -> Finding {
+        match eye_points {
+            Some(eye_points) if is_open => Finding::OpenWithEyes(eye_points),
+            Some(eye_points) => Finding::Eyes(eye_points),
             None if is_open => Finding::Open,
             None => Finding::Nothing,
         }
     }
 
     /// How many points for eyes are left, if that was asked.
-    pub(crate) fn many(self) -> Option<u8> {
+    pub(crate) fn eye_points(self) -> Option<u8> {
         match self {
-            Finding::Eyes(many) | Finding::OpenWithEyes(many) => Some(many),
+            Finding::Eyes(eye_points) | Finding::OpenWithEyes(eye_points) => Some(eye_points),
             Finding::Nothing | Finding::Open => None,
         }
     }

@@ -1,7 +1,7 @@
 //! Depth-first proof-number search that recognizes living groups, and hopeless ones, by their shape.
 //!
-//! It is for problems with at most 128 points that can change. Nothing is promised about a proof except that the steps are counted:
-//! its claim is to be given to the checker.
+//! Where more than 128 points can change, it does not ask about shapes. Nothing is promised about a proof except that the steps are
+//! counted: its claim is to be given to the checker.
 #![tactic(auto)]
 
 mod asked;

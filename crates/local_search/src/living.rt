@@ -6,16 +6,16 @@ ghost use Rattle.state_proofs.specs.Work.{work};
 
 use crate::expanding::step_at;
 use crate::finish::{Due, Entered, Finish, Goal, Needed};
-use crate::frame::State;
+use crate::frame::{State, side_of};
 use crate::values::Turned;
 use go_points::Colour;
-use local_board::{Side, Step};
+use local_board::{PlaceSet, Side, Step};
 use state_proofs::{Form, Stop};
 use std::alloc::AllocError;
 
-impl Finish {
+impl<S: PlaceSet> Finish<S> {
     /// Begins with a state where the defender lives. Each such state is a step, if it has no proof yet and is no leaf.
-    pub(crate) fn enter_life(&mut self, state: State) -> Result<Entered, Stop>
+    pub(crate) fn enter_life(&mut self, state: State<S>) -> Result<Entered, Stop>
         ensures step { IfOk result (λ e. e ≡ Begun
             → self.new.steps.left + 1 ≡ self.old.steps.left) }
         ensures leaf { self.old.search.has_leaves ≡ true
@@ -29,7 +29,7 @@ impl Finish {
             return Ok(Entered::Done(self.search.proof_by_shape(state, Side::Defender)?));
         }
         self.steps.take()?;
-        if self.search.side(state.key.mover) == Side::Attacker {
+        if side_of(self.search.attacker, state.key.mover) == Side::Attacker {
             return self.begin_attack_on_life(state);
         }
         if state.key.passes == 1 {
@@ -39,11 +39,11 @@ impl Finish {
     }
 
     fn defender(&self) -> Colour {
-        self.search.colour(Side::Defender)
+        self.search.attacker.opponent()
     }
 
     /// Begins with the defender's turn.
-    fn begin_life(&mut self, state: State) -> Result<Entered, Stop>
+    fn begin_life(&mut self, state: State<S>) -> Result<Entered, Stop>
         ensures steps { self.new.steps ≡ self.old.steps }
     {
         let due = self.due.len();
@@ -66,7 +66,7 @@ impl Finish {
 
     /// The defender's turn after which he lives and least is left to play. It is his pass if he lives after that and it leaves no
     /// more.
-    fn living_turn(&mut self, state: State, lives: bool) -> Turned
+    fn living_turn(&mut self, state: State<S>, lives: bool) -> Turned
         ensures steps { self.new.steps ≡ self.old.steps }
     {
         let mut best = Turned::worst();
@@ -75,11 +75,7 @@ impl Finish {
             let passed = self.search.after(state, Step::Pass);
             best.value = self.value(passed, best.room.whole, u64::MAX);
         }
-        let mut rest = self.playable(state).places();
-        for _ in 0..u64::MAX {
-            let Some(place) = rest.take() else {
-                return best;
-            };
+        for place in self.playable(state).places() {
             if let Some(turn) = self.turn_of_life(state, place, best.value) {
                 if turn.is_before(best) {
                     best = turn;
@@ -90,7 +86,7 @@ impl Finish {
     }
 
     /// The defender's move at this place, with what it leaves to play, if he lives after it.
-    fn turn_of_life(&mut self, state: State, place: usize, most: u64) -> Option<Turned>
+    fn turn_of_life(&mut self, state: State<S>, place: usize, most: u64) -> Option<Turned>
         ensures steps { self.new.steps ≡ self.old.steps }
     {
         let after = self.search.after_move_at(state, Side::Defender, place);
@@ -109,7 +105,7 @@ impl Finish {
     }
 
     /// Begins with all turns of the attacker.
-    fn begin_attack_on_life(&mut self, state: State) -> Result<Entered, Stop>
+    fn begin_attack_on_life(&mut self, state: State<S>) -> Result<Entered, Stop>
         ensures steps { self.new.steps ≡ self.old.steps }
     {
         let due = self.due.len();
@@ -127,16 +123,12 @@ impl Finish {
 
     /// Lists all moves of the mover as due with this goal, or as ends of the game if they take a target. Returns whether the past
     /// bars one.
-    pub(crate) fn list_turns(&mut self, state: State, goal: Goal) -> Result<bool, AllocError>
+    pub(crate) fn list_turns(&mut self, state: State<S>, goal: Goal) -> Result<bool, AllocError>
         ensures steps { self.new.steps ≡ self.old.steps }
     {
-        let side = self.search.side(state.key.mover);
+        let side = side_of(self.search.attacker, state.key.mover);
         let mut is_barred = false;
-        let mut rest = self.playable(state).places();
-        for _ in 0..u64::MAX {
-            let Some(place) = rest.take() else {
-                return Ok(is_barred);
-            };
+        for place in self.playable(state).places() {
             let after = self.search.after_move_at(state, side, place);
             if after.position != state.position {
                 if self.search.past.has(after.key.position) {
@@ -149,7 +141,7 @@ impl Finish {
         Ok(is_barred)
     }
 
-    fn list_turn(&mut self, place: usize, after: State, goal: Goal) -> Result<(), AllocError>
+    fn list_turn(&mut self, place: usize, after: State<S>, goal: Goal) -> Result<(), AllocError>
         ensures steps { self.new.steps ≡ self.old.steps }
     {
         let step = step_at(place);

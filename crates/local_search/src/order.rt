@@ -7,7 +7,7 @@ use crate::finish::{Finish, Goal};
 use crate::frame::State;
 use crate::search::Search;
 use crate::smaller::Smaller;
-use local_board::{Side, Step};
+use local_board::{LargeSet, MAX_SMALL, PlaceSet, Side, SmallSet, Step, count_changing};
 use state_proofs::{Answers, Proofs, Refusal, Shared, Stop, steps_for_smaller};
 use std::alloc::{AllocError, Global};
 use std::mem;
@@ -23,7 +23,8 @@ const ROOMS: [u32; 5] = [0, 15, 11, 7, 4];
 /// The steps that are set aside for the last walk.
 const LAST_STEPS: u64 = 500;
 
-/// The proofs that the search finds with a table of this many states. Each state that is opened is a step.
+/// The proofs that the search finds with a table of this many states. Each state that is opened is a step. Where more points can
+/// change than a small set holds, it does not ask about shapes.
 pub fn prove(
     alloc: Global,
     problem: &Problem,
@@ -34,7 +35,28 @@ pub fn prove(
     ensures fewer { left.new ≤ left.old }
     ensures all { IfErr result (λ stop. stop ≡ Steps → left.new ≡ 0) }
 {
-    let Ok((search, start)) = Search::of(alloc, problem, table) else {
+    match count_changing(alloc, problem) {
+        Ok(count) if count <= MAX_SMALL => {
+            prove_by::<SmallSet>(alloc, problem, table, true, answers, left)
+        }
+        Ok(_) => prove_by::<LargeSet>(alloc, problem, table, false, answers, left),
+        Err(_) => Err(Stop::Refused(Refusal::Memory)),
+    }
+}
+
+/// The same with sets of this kind, which have room for all points that can change, and with or without questions about shapes.
+fn prove_by<S: PlaceSet>(
+    alloc: Global,
+    problem: &Problem,
+    table: NonZeroUsize,
+    asks_shapes: bool,
+    answers: Answers,
+    left: &mut u64,
+) -> Result<Shared, Stop>
+    ensures fewer { left.new ≤ left.old }
+    ensures all { IfErr result (λ stop. stop ≡ Steps → left.new ≡ 0) }
+{
+    let Ok((search, start)) = Search::<S>::of(alloc, problem, table, asks_shapes) else {
         return Err(Stop::Refused(Refusal::Memory));
     };
     let mut proving = Proving {
@@ -60,14 +82,14 @@ pub fn prove(
 
 /// The whole search.
 #[derive(Drop)]
-struct Proving {
-    finish: Finish,
-    start: State,
+struct Proving<S> {
+    finish: Finish<S>,
+    start: State<S>,
     /// The proofs that were made whole, by their places in the list.
     whole: Vec<(usize, usize)>,
 }
 
-impl Proving {
+impl<S: PlaceSet> Proving<S> {
     /// The proofs that are found.
     fn prove(&mut self, alloc: Global, answers: Answers) -> Result<Shared, Stop> {
         self.finish.search.has_leaves = answers == Answers::Short;
@@ -153,7 +175,8 @@ impl Proving {
     fn smaller(&mut self, alloc: Global, first: u32) -> u32 {
         let mut best = first;
         for room in ROOMS {
-            if (room == 0) == (self.turns_of(best) <= LARGE) {
+            let is_due = (room == 0) == (self.turns_of(best) <= LARGE);
+            if is_due && self.finish.search.asks_shapes {
                 best = self.with_room(alloc, room, best);
             }
         }

@@ -3,6 +3,7 @@
 //! A question makes no state and is not a step. What is answered by shape is played out at the end, and a wrong guess costs steps
 //! but never gives a wrong answer.
 
+use crate::expanding::step_at;
 use crate::frame::{Reason, State};
 use crate::search::Search;
 use local_board::{PlaceSet, Position, Room, Side, Step};
@@ -10,14 +11,14 @@ use state_proofs::key_after_move;
 
 /// A state that is expanded, and the questions that are asked once for all its children.
 #[derive(Clone, Copy)]
-pub(crate) struct Parent {
-    pub(crate) state: State,
+pub(crate) struct Parent<S> {
+    pub(crate) state: State<S>,
     /// For each side, the places where a stone is put down and nothing else changes.
-    pub(crate) plain: Position,
+    pub(crate) quiet: Position<S>,
     /// The places where one more stone makes the defender live.
-    lives: Option<PlaceSet>,
+    lives: Option<S>,
     /// The attacker's turns that kill, or nearly kill, if the defender has passed.
-    kills: Option<PlaceSet>,
+    kills: Option<S>,
     /// The place of the turn that settled a child last. It often settles the next one, too, and is tried first.
     settled_by: Option<usize>,
 }
@@ -30,22 +31,22 @@ pub(crate) struct Answer {
     /// Who wins in that case.
     pub(crate) winner: Side,
     /// How many points are left where the defender could have an eye, if that was asked.
-    pub(crate) many: Option<u8>,
+    pub(crate) eye_points: Option<u8>,
 }
 
 /// A turn after which a state is certain.
 #[derive(Clone, Copy)]
-pub(crate) struct NextTurn {
+pub(crate) struct NextTurn<S> {
     pub(crate) step: Step,
-    pub(crate) state: State,
+    pub(crate) state: State<S>,
     room: Room,
 }
 
-impl Parent {
-    pub(crate) fn of(state: State, plain: Position) -> Parent {
+impl<S: PlaceSet> Parent<S> {
+    pub(crate) fn of(state: State<S>, quiet: Position<S>) -> Parent<S> {
         Parent {
             state,
-            plain,
+            quiet,
             lives: None,
             kills: None,
             settled_by: None,
@@ -54,17 +55,17 @@ impl Parent {
 }
 
 /// The answer that the state is settled for this reason.
-fn settled(reason: Reason, winner: Side, many: Option<u8>) -> Answer {
+fn settled(reason: Reason, winner: Side, eye_points: Option<u8>) -> Answer {
     Answer {
         reason: Some(reason),
         winner,
-        many,
+        eye_points,
     }
 }
 
-impl Search {
+impl<S: PlaceSet> Search<S> {
     /// What is certain about a child of the parent. `takes` says that the turn to it took stones, of either side.
-    pub(crate) fn ask(&mut self, parent: &mut Parent, child: State, takes: bool) -> Answer {
+    pub(crate) fn ask(&mut self, parent: &mut Parent<S>, child: State<S>, takes: bool) -> Answer {
         let mover = self.side(child.key.mover);
         if mover == Side::Defender && child.key.passes == 1 {
             return settled(Reason::Passes, Side::Defender, None);
@@ -82,31 +83,31 @@ impl Search {
     }
 
     /// What the points for eyes say about the child.
-    fn ask_eyes(&mut self, parent: &mut Parent, child: State, takes: bool) -> Answer {
+    fn ask_eyes(&mut self, parent: &mut Parent<S>, child: State<S>, takes: bool) -> Answer {
         if !self.asks_death {
             return Answer {
                 reason: None,
                 winner: Side::Attacker,
-                many: None,
+                eye_points: None,
             };
         }
         let eyes = self.shapes.eyes(child.position);
-        let many = Some(eyes.many);
+        let eye_points = Some(eyes.eye_points);
         if eyes.is_dead {
-            return settled(Reason::Dead, Side::Attacker, many);
+            return settled(Reason::Dead, Side::Attacker, eye_points);
         }
         if self.side(child.key.mover) == Side::Attacker && self.dies_by_turn(parent, child, takes) {
-            return settled(Reason::Next, Side::Attacker, many);
+            return settled(Reason::Next, Side::Attacker, eye_points);
         }
         Answer {
             reason: None,
             winner: Side::Attacker,
-            many,
+            eye_points,
         }
     }
 
     /// Whether the defender has a turn here after which he lives by his shape.
-    fn lives_by_turn(&mut self, parent: &mut Parent, child: State, takes: bool) -> bool {
+    fn lives_by_turn(&mut self, parent: &mut Parent<S>, child: State<S>, takes: bool) -> bool {
         if !self.asks_life {
             return false;
         }
@@ -119,7 +120,7 @@ impl Search {
     }
 
     /// Whether the attacker has a turn here after which the defender cannot have two eyes.
-    fn dies_by_turn(&mut self, parent: &mut Parent, child: State, takes: bool) -> bool {
+    fn dies_by_turn(&mut self, parent: &mut Parent<S>, child: State<S>, takes: bool) -> bool {
         let at = if takes {
             self.shapes.board.region()
         } else {
@@ -131,10 +132,10 @@ impl Search {
     /// Whether the side has a turn at one of these places after which the child of the parent is certain.
     fn is_settled_next(
         &mut self,
-        parent: &mut Parent,
-        child: State,
+        parent: &mut Parent<S>,
+        child: State<S>,
         side: Side,
-        at: PlaceSet,
+        at: S,
     ) -> bool {
         match self.next_turn(child, side, at, parent.settled_by) {
             Some(place) => {
@@ -146,10 +147,8 @@ impl Search {
     }
 
     /// The turn by which the attacker takes a target at once.
-    pub(crate) fn taking_turn(&self, state: State) -> Option<State> {
-        let mut rest = self.shapes.board.takes(state.position).places();
-        for _ in 0..u64::MAX {
-            let place = rest.take()?;
+    pub(crate) fn taking_turn(&self, state: State<S>) -> Option<State<S>> {
+        for place in self.shapes.board.takes(state.position).places() {
             let after = self.after_move_at(state, Side::Attacker, place);
             if !self.past.has(after.key.position) {
                 return Some(after);
@@ -159,14 +158,14 @@ impl Search {
     }
 
     /// The state after a move at this place.
-    pub(crate) fn after_move_at(&self, state: State, side: Side, place: usize) -> State {
+    pub(crate) fn after_move_at(&self, state: State<S>, side: Side, place: usize) -> State<S> {
         let board = &self.shapes.board;
         let position = board.after(state.position, side, place);
         self.moved(state, position)
     }
 
     /// The state after a move that leads to this position.
-    pub(crate) fn moved(&self, state: State, position: Position) -> State {
+    pub(crate) fn moved(&self, state: State<S>, position: Position<S>) -> State<S> {
         let number = self
             .shapes
             .board
@@ -178,26 +177,28 @@ impl Search {
     }
 
     /// Whether the defender is taken to live here, by his shape and with no more left to play than is allowed.
-    pub(crate) fn lives_by_shape(&mut self, position: Position) -> bool {
-        self.asks_life
-            && self.shapes.is_alive(position)
-            && (self.room == 0 || self.shapes.room_of_life(position).whole < self.room)
+    pub(crate) fn lives_by_shape(&mut self, position: Position<S>) -> bool {
+        if !self.asks_life {
+            return false;
+        }
+        let lives = self.shapes.is_alive(position);
+        if !lives || self.room == 0 {
+            return lives;
+        }
+        let left = self.shapes.room_of_life(position);
+        left.whole < self.room
     }
 
     /// The places where one more stone makes the defender live, if the attacker takes nothing before it: then the defender still has
     /// these stones, and whether they live does not depend on the attacker's.
-    fn living_places(&mut self, parent: &mut Parent) -> PlaceSet {
+    fn living_places(&mut self, parent: &mut Parent<S>) -> S {
         if let Some(places) = parent.lives {
             return places;
         }
         let defender = parent.state.position.defender;
         let empty = self.shapes.board.empty(parent.state.position);
-        let mut found = PlaceSet::empty();
-        let mut rest = empty.and(self.shapes.board.region()).places();
-        for _ in 0..u64::MAX {
-            let Some(place) = rest.take() else {
-                break;
-            };
+        let mut found = S::empty();
+        for place in empty.and(self.shapes.board.region()).places() {
             if self.shapes.may_live(defender.with(place)) {
                 found = found.with(place);
             }
@@ -207,22 +208,18 @@ impl Search {
     }
 
     /// The attacker's turns that kill, or nearly kill, if the defender has passed. It is a guess, and what it misses is searched.
-    fn killing_places(&mut self, parent: &mut Parent) -> PlaceSet {
+    fn killing_places(&mut self, parent: &mut Parent<S>) -> S {
         if let Some(places) = parent.kills {
             return places;
         }
         let position = parent.state.position;
         let empty = self.shapes.board.empty(position);
-        let mut found = PlaceSet::empty();
-        let mut rest = empty.and(self.shapes.board.region()).places();
-        for _ in 0..u64::MAX {
-            let Some(place) = rest.take() else {
-                break;
-            };
+        let mut found = S::empty();
+        for place in empty.and(self.shapes.board.region()).places() {
             let played = self
                 .shapes
                 .board
-                .played(position, Side::Attacker, place, parent.plain.attacker);
+                .played(position, Side::Attacker, place, parent.quiet.attacker);
             if let Some(after) = played {
                 if self.shapes.eyes(after).is_nearly_dead {
                     found = found.with(place);
@@ -234,7 +231,7 @@ impl Search {
     }
 
     /// Whether the side has reached its aim by shape.
-    fn is_certain(&mut self, side: Side, position: Position) -> bool {
+    fn is_certain(&mut self, side: Side, position: Position<S>) -> bool {
         match side {
             Side::Defender => self.lives_by_shape(position),
             Side::Attacker => self.asks_death && self.shapes.eyes(position).is_dead,
@@ -245,25 +242,23 @@ impl Search {
     /// `first` is tried before the others.
     fn next_turn(
         &mut self,
-        state: State,
+        state: State<S>,
         side: Side,
-        at: PlaceSet,
+        at: S,
         first: Option<usize>,
     ) -> Option<usize> {
         let empty = self.shapes.board.empty(state.position);
         let mut rest = empty.and(self.shapes.board.region()).and(at);
         if let Some(place) = first {
             if rest.has(place) {
-                if self.certain_turn(state, side, place).is_some() {
+                if self.certain_after(state, side, place).is_some() {
                     return first;
                 }
-                rest = rest.minus(PlaceSet::empty().with(place));
+                rest = rest.minus(S::empty().with(place));
             }
         }
-        let mut rest = rest.places();
-        for _ in 0..u64::MAX {
-            let place = rest.take()?;
-            if self.certain_turn(state, side, place).is_some() {
+        for place in rest.places() {
+            if self.certain_after(state, side, place).is_some() {
                 return Some(place);
             }
         }
@@ -271,26 +266,27 @@ impl Search {
     }
 
     /// The turn of that kind that leaves the side least to play.
-    pub(crate) fn best_next_turn(&mut self, state: State, side: Side) -> Option<NextTurn> {
-        let mut best: Option<NextTurn> = None;
+    pub(crate) fn best_next_turn(&mut self, state: State<S>, side: Side) -> Option<NextTurn<S>> {
+        let mut best: Option<NextTurn<S>> = None;
         let empty = self.shapes.board.empty(state.position);
-        let mut rest = empty.and(self.shapes.board.region()).places();
-        for _ in 0..u64::MAX {
-            let Some(place) = rest.take() else {
-                return best;
-            };
-            if let Some(turn) = self.certain_turn(state, side, place) {
-                let weighed = self.weigh_turn(turn, side, place);
-                best = better_turn(best, weighed);
+        for place in empty.and(self.shapes.board.region()).places() {
+            if let Some(after) = self.certain_after(state, side, place) {
+                let room = self.room_left(&after, side, place);
+                let turn = NextTurn {
+                    step: step_at(place),
+                    state: after,
+                    room,
+                };
+                best = better_turn(best, turn);
             }
         }
         best
     }
 
-    /// The side's turn at this place, if the state is certain after it and its result has not occurred.
-    fn certain_turn(&mut self, state: State, side: Side, place: usize) -> Option<NextTurn> {
+    /// The state after the side's turn at this place, if it is certain and its position has not occurred.
+    fn certain_after(&mut self, state: State<S>, side: Side, place: usize) -> Option<State<S>> {
         // Mostly this tells what the position after the turn would, which costs more.
-        if side == Side::Defender && !self.shapes.may_live(state.position.defender.with(place)) {
+        if side == Side::Defender && !self.may_live_with(&state, place) {
             return None;
         }
         let position = self.shapes.board.after(state.position, side, place);
@@ -298,29 +294,28 @@ impl Search {
             return None;
         }
         let after = self.moved(state, position);
-        if self.past.has(after.key.position) || place > u16::MAX as usize {
+        if self.past.has(after.key.position) {
             return None;
         }
-        Some(NextTurn {
-            step: Step::At(place as u16),
-            state: after,
-            room: Room::most(),
-        })
+        Some(after)
     }
 
-    /// The turn with what it leaves to play.
-    fn weigh_turn(&mut self, turn: NextTurn, side: Side, place: usize) -> NextTurn {
-        let position = turn.state.position;
-        let room = match side {
-            Side::Defender => self.shapes.room_of_life(position),
-            Side::Attacker => self.shapes.board.room_of_death(position, place),
-        };
-        NextTurn { room, ..turn }
+    /// Whether the defender's stones and one at this place live by their shape.
+    fn may_live_with(&mut self, state: &State<S>, place: usize) -> bool {
+        self.shapes.may_live(state.position.defender.with(place))
+    }
+
+    /// What the side's turn at this place, which led to this state, leaves to play.
+    fn room_left(&mut self, after: &State<S>, side: Side, place: usize) -> Room {
+        match side {
+            Side::Defender => self.shapes.room_of_life(after.position),
+            Side::Attacker => self.shapes.board.room_of_death(after.position, place),
+        }
     }
 }
 
 /// The better of the two turns.
-fn better_turn(best: Option<NextTurn>, turn: NextTurn) -> Option<NextTurn> {
+fn better_turn<S: PlaceSet>(best: Option<NextTurn<S>>, turn: NextTurn<S>) -> Option<NextTurn<S>> {
     match best {
         Some(found) if found.room <= turn.room => Some(found),
         _ => Some(turn),

@@ -35,6 +35,9 @@ const LEAST: u32 = 4;
 
 const GREATEST: u32 = 32;
 
+/// The weight of a turn that was never tried.
+const NEVER_TRIED: u32 = 11;
+
 impl TurnResults {
     /// No results yet, on a board with this many places.
     pub(crate) fn of(alloc: Global, places: usize) -> Result<TurnResults, AllocError> {
@@ -82,8 +85,11 @@ impl TurnResults {
 
     /// How unlikely a turn is to win, in eighths: eight times the square root of one half divided by the chance.
     pub(crate) fn weight(&self, rows: TurnRows, step: Step) -> u32 {
-        let after = self.at(rows.after, step);
         let all = self.at(rows.all, step);
+        if all.tried == 0 {
+            return NEVER_TRIED;
+        }
+        let after = self.at(rows.after, step);
         let known = all.tried.saturating_add(4);
         let chance = after.tried.saturating_add(4).saturating_mul(known);
         let won = after

@@ -10,12 +10,14 @@
 ghost use Rattle.std.specs.Prelude.{◌≤◌};
 ghost use Rattle.state_proofs.specs.Work.{work};
 
-use crate::frame::{Child, Frame, Outcome, Reason, State, after_step, outcome_by, standing_of};
+use crate::frame::{
+    Child, Frame, Outcome, Reason, State, after_step, outcome_by, side_of, standing_of,
+};
 use crate::kept::KeptMoves;
 use crate::numbers::{numbers_of, thresholds_below};
 use crate::results::TurnResults;
 use go_points::Colour;
-use local_board::{Board, Position, Shapes, Side, Step};
+use local_board::{Board, PlaceSet, Position, Shapes, Side, Step};
 use pn_table::{Key, Numbers, Table};
 use state_proofs::{
     Branch, Count, Form, MAX_LINE, Marks, MoverNumbers, Past, Proofs, Refusal, Standing, Steps,
@@ -30,15 +32,19 @@ use target_game::Problem;
 /// vain.
 const STORED: usize = 130_000;
 
-/// A search on a board of at most 128 points that can change.
+/// A search on a board whose places sets of this kind hold.
 #[derive(Drop)]
-pub(crate) struct Search {
-    pub(crate) shapes: Shapes,
+pub(crate) struct Search<S> {
+    /// On the heap, so that the size of what holds them does not depend on the kind of sets.
+    pub(crate) shapes: Box<Shapes<S>>,
     pub(crate) proofs: Proofs,
     /// What has occurred before the end of the line, and how many turns the line has.
     pub(crate) past: Past,
     pub(crate) turns: usize,
     pub(crate) attacker: Colour,
+    /// Whether shapes are asked about at all. On a wide board a state has hundreds of children, and questions about each of them
+    /// would take far longer than all else.
+    pub(crate) asks_shapes: bool,
     /// Whether to ask who lives, and who cannot have two eyes, by shape; and how little must be left to play for a group to be
     /// taken to live (0 for any amount).
     pub(crate) asks_life: bool,
@@ -51,7 +57,7 @@ pub(crate) struct Search {
     stored: Marks,
     pub(crate) kept: KeptMoves,
     pub(crate) results: TurnResults,
-    pub(crate) frames: Vec<Frame>,
+    pub(crate) frames: Vec<Frame<S>>,
     pub(crate) children: Vec<Child>,
     /// The branches of one proof.
     pub(crate) branches: Vec<Branch>,
@@ -59,25 +65,27 @@ pub(crate) struct Search {
     pub(crate) barred: Vec<u64>,
 }
 
-impl Search {
+impl<S: PlaceSet> Search<S> {
     /// A search that knows nothing yet, at the start of the problem, and its first state.
     pub(crate) fn of(
         alloc: Global,
         problem: &Problem,
         capacity: NonZeroUsize,
-    ) -> Result<(Search, State), AllocError> {
+        asks_shapes: bool,
+    ) -> Result<(Search<S>, State<S>), AllocError> {
         let (board, position) = Board::of(alloc, problem)?;
         let places = board.len();
         let mut stored = Marks::new(alloc);
         stored.make_room(capacity.get().min(STORED))?;
         let search = Search {
-            shapes: Shapes::of(alloc, board),
+            shapes: Box::new(alloc, Shapes::of(alloc, board))?,
             proofs: Proofs::new(alloc),
             past: Past::of(alloc, problem)?,
             turns: 0,
             attacker: problem.defender().opponent(),
-            asks_life: true,
-            asks_death: true,
+            asks_shapes,
+            asks_life: asks_shapes,
+            asks_death: asks_shapes,
             room: 0,
             has_leaves: false,
             table: Table::with_capacity(alloc, capacity)?,
@@ -94,11 +102,7 @@ impl Search {
 
     /// The side that has this colour.
     pub(crate) fn side(&self, colour: Colour) -> Side {
-        if colour == self.attacker {
-            Side::Attacker
-        } else {
-            Side::Defender
-        }
+        side_of(self.attacker, colour)
     }
 
     /// The colour of this side.
@@ -110,7 +114,7 @@ impl Search {
     }
 
     /// The state after this turn.
-    pub(crate) fn after(&self, state: State, step: Step) -> State {
+    pub(crate) fn after(&self, state: State<S>, step: Step) -> State<S> {
         match step {
             Step::Pass => State {
                 position: state.position,
@@ -130,7 +134,7 @@ impl Search {
         if step != Step::Pass && !self.past.add(position)? {
             return Err(Refusal::Fault);
         }
-        self.turns += 1;
+        self.turns = self.turns.saturating_add(1);
         Ok(())
     }
 
@@ -186,7 +190,7 @@ impl Search {
     /// Searches the state at the end of the line, to which this turn has led, until it is settled. The line is then as it was.
     pub(crate) fn settle(
         &mut self,
-        state: State,
+        state: State<S>,
         last: Step,
         steps: &mut Steps,
     ) -> Result<u32, Stop>
@@ -202,7 +206,7 @@ impl Search {
     }
 
     /// The search, which leaves the line where it ends.
-    fn search(&mut self, state: State, last: Step, steps: &mut Steps) -> Result<u32, Stop>
+    fn search(&mut self, state: State<S>, last: Step, steps: &mut Steps) -> Result<u32, Stop>
         ensures work { work steps.new ≤ work steps.old }
     {
         self.expand(state, last, Thresholds::none(), steps)?;
@@ -215,7 +219,7 @@ impl Search {
     }
 
     /// The children of the frame, which is the last.
-    pub(crate) fn children_of(&self, frame: Frame) -> &[Child] {
+    pub(crate) fn children_of(&self, frame: Frame<S>) -> &[Child] {
         part_from(self.children.as_slice(), frame.first)
     }
 
@@ -242,7 +246,7 @@ impl Search {
     }
 
     /// Makes the proof of the last frame, and gives it to the frame above.
-    fn settle_last(&mut self, frame: Frame, form: Form) -> Result<Option<u32>, Stop> {
+    fn settle_last(&mut self, frame: Frame<S>, form: Form) -> Result<Option<u32>, Stop> {
         let mover = frame.state.key.mover;
         let winner = match form {
             Form::Turn => mover,
@@ -259,7 +263,7 @@ impl Search {
     }
 
     /// Notes which turns of the frame have won.
-    fn learn(&mut self, frame: Frame, mover_wins: bool) {
+    fn learn(&mut self, frame: Frame<S>, mover_wins: bool) {
         let side = self.side(frame.state.key.mover);
         for place in frame.first..self.children.len() {
             if let Some(child) = self.children.get(place).copied() {
@@ -277,7 +281,7 @@ impl Search {
     }
 
     /// Removes the last frame, and notes this outcome in the frame above. Returns whether there is one.
-    fn leave(&mut self, frame: Frame, outcome: Outcome) -> bool {
+    fn leave(&mut self, frame: Frame<S>, outcome: Outcome) -> bool {
         self.frames.pop();
         self.children.truncate(frame.first);
         let Some(above) = self.frames.last().copied() else {
@@ -289,7 +293,7 @@ impl Search {
     }
 
     /// Leaves the last frame, which is not settled, with these numbers.
-    fn leave_open(&mut self, frame: Frame, numbers: MoverNumbers) {
+    fn leave_open(&mut self, frame: Frame<S>, numbers: MoverNumbers) {
         let key = frame.state.key;
         let is_attacker = key.mover == self.attacker;
         self.stored.mark(key.position);
@@ -305,7 +309,7 @@ impl Search {
     }
 
     /// Goes down to the child with the least weighed number, or settles it if it has been proved in the meantime.
-    fn go_down(&mut self, frame: Frame, count: Count, steps: &mut Steps) -> Result<(), Stop>
+    fn go_down(&mut self, frame: Frame<S>, count: Count, steps: &mut Steps) -> Result<(), Stop>
         ensures work { work steps.new ≤ work steps.old }
     {
         let place = frame.first.saturating_add(count.best);
@@ -333,7 +337,7 @@ impl Search {
 }
 
 /// The state of the problem.
-fn first_state(problem: &Problem, position: Position) -> State {
+fn first_state<S: PlaceSet>(problem: &Problem, position: Position<S>) -> State<S> {
     State {
         position,
         key: Key {

@@ -1,10 +1,10 @@
 //! The proof of a state that is settled, from its children.
 
 use crate::expanding::step_at;
-use crate::frame::{Child, Frame, Outcome, Reason, State};
+use crate::frame::{Child, Frame, Outcome, Reason, State, place_added};
 use crate::search::Search;
 use go_points::{Colour, Turn};
-use local_board::{Side, Step};
+use local_board::{PlaceSet, Side, Step};
 use state_proofs::{Below, Branch, Form, Proofs, Refusal, Settled};
 use std::alloc::AllocError;
 
@@ -14,11 +14,11 @@ const MOST_DOUBLINGS: u32 = 14;
 /// The depth that a proof by shape counts for.
 const DEPTH_BY_SHAPE: u16 = 30;
 
-impl Search {
+impl<S: PlaceSet> Search<S> {
     /// Makes the proof of the last frame.
     pub(crate) fn prove(
         &mut self,
-        frame: Frame,
+        frame: Frame<S>,
         winner: Colour,
         form: Form,
     ) -> Result<u32, Refusal> {
@@ -50,7 +50,7 @@ impl Search {
     }
 
     /// Adds the branch to a settled child of the state.
-    fn add_branch(&mut self, state: State, child: Child) -> Result<(), Refusal> {
+    fn add_branch(&mut self, state: State<S>, child: Child) -> Result<(), Refusal> {
         let step = child.step;
         let reason = match child.outcome {
             Outcome::Open(_) => return Ok(()),
@@ -70,14 +70,10 @@ impl Search {
     }
 
     /// Lists the positions after the state's moves that the past bars.
-    pub(crate) fn list_barred(&mut self, state: State) -> Result<(), AllocError> {
+    pub(crate) fn list_barred(&mut self, state: State<S>) -> Result<(), AllocError> {
         let side = self.side(state.key.mover);
         let empty = self.shapes.board.empty(state.position);
-        let mut rest = empty.and(self.shapes.board.region()).places();
-        for _ in 0..u64::MAX {
-            let Some(place) = rest.take() else {
-                return Ok(());
-            };
+        for place in empty.and(self.shapes.board.region()).places() {
             let after = self.after_move_at(state, side, place);
             let position = after.key.position;
             if position != state.key.position && self.past.has(position) {
@@ -91,7 +87,7 @@ impl Search {
     pub(crate) fn proof_by_question(
         &mut self,
         reason: Reason,
-        state: State,
+        state: State<S>,
     ) -> Result<u32, Refusal> {
         if let Some(number) = self.proof_after(state.key) {
             return Ok(number);
@@ -108,7 +104,7 @@ impl Search {
     /// The proof of a state where the defender passes for the second time.
     pub(crate) fn proof_by_pass(
         &mut self,
-        state: State,
+        state: State<S>,
         is_expanded: bool,
     ) -> Result<u32, AllocError> {
         let branch = Branch::of(Turn::Pass, Below::Won);
@@ -124,7 +120,7 @@ impl Search {
     /// The proof of a state where the attacker takes a target at once.
     pub(crate) fn proof_by_taking(
         &mut self,
-        state: State,
+        state: State<S>,
         is_expanded: bool,
     ) -> Result<u32, Refusal> {
         let settled = Settled {
@@ -136,8 +132,7 @@ impl Search {
         let Some(after) = self.taking_turn(state) else {
             return Err(Refusal::Fault);
         };
-        let added = after.position.attacker.minus(state.position.attacker);
-        let step = match added.first() {
+        let step = match place_added(&state, &after) {
             Some(place) => step_at(place),
             None => Step::Pass,
         };
@@ -147,7 +142,7 @@ impl Search {
     }
 
     /// The proof of a state whose mover has a turn after which it is certain.
-    fn proof_by_next_turn(&mut self, state: State) -> Result<u32, Refusal> {
+    fn proof_by_next_turn(&mut self, state: State<S>) -> Result<u32, Refusal> {
         let side = self.side(state.key.mover);
         let Some(next) = self.best_next_turn(state, side) else {
             return Err(Refusal::Fault);
@@ -170,7 +165,11 @@ impl Search {
 
     /// The proof of a state that the side has won by shape. It is a leaf if the defender has won and living states are leaves;
     /// otherwise it still has to be played out.
-    pub(crate) fn proof_by_shape(&mut self, state: State, winner: Side) -> Result<u32, AllocError> {
+    pub(crate) fn proof_by_shape(
+        &mut self,
+        state: State<S>,
+        winner: Side,
+    ) -> Result<u32, AllocError> {
         let empty = self.shapes.board.empty(state.position);
         let playable = empty.and(self.shapes.board.region()).len();
         let form = match winner {

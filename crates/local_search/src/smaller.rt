@@ -10,6 +10,7 @@ ghost use Rattle.state_proofs.specs.Work.{work};
 use crate::asked::{Asked, Question};
 use crate::finish::{Finish, Goal};
 use crate::frame::State;
+use local_board::PlaceSet;
 use state_proofs::{Below, Form, MAX_TRIED, Proof, Refusal, Stop, Visit, Visits};
 use std::alloc::{AllocError, Global};
 
@@ -18,15 +19,15 @@ const MAX_PLAYED: u64 = 1_000;
 
 /// The rounds over a proof.
 #[derive(Drop)]
-pub(crate) struct Smaller {
+pub(crate) struct Smaller<S> {
     visits: Visits,
     /// The states that are visited.
-    states: Vec<State>,
-    pub(crate) asked: Vec<Asked>,
+    states: Vec<State<S>>,
+    pub(crate) asked: Vec<Asked<S>>,
 }
 
-impl Smaller {
-    pub(crate) fn of(alloc: Global) -> Smaller {
+impl<S: PlaceSet> Smaller<S> {
+    pub(crate) fn of(alloc: Global) -> Smaller<S> {
         Smaller {
             visits: Visits::new(alloc),
             states: Vec::new(alloc),
@@ -36,7 +37,7 @@ impl Smaller {
 
     /// A smaller proof of the first state than this one. It makes rounds until one gains less than a hundredth or no step is left.
     /// If memory is refused, the last proof stays.
-    pub(crate) fn shrink(&mut self, finish: &mut Finish, start: State, root: u32) -> u32
+    pub(crate) fn shrink(&mut self, finish: &mut Finish<S>, start: State<S>, root: u32) -> u32
         ensures work { work finish.new.steps ≤ work finish.old.steps }
     {
         let mut root = root;
@@ -61,7 +62,7 @@ impl Smaller {
     }
 
     /// One round from the first state. Returns its proof after the round.
-    fn round(&mut self, finish: &mut Finish, start: State, root: u32) -> Result<u32, Stop>
+    fn round(&mut self, finish: &mut Finish<S>, start: State<S>, root: u32) -> Result<u32, Stop>
         ensures work { work finish.new.steps ≤ work finish.old.steps }
     {
         self.visits.clear();
@@ -82,7 +83,7 @@ impl Smaller {
 
     /// Asks the next question of the last state, or makes its proof. Returns the proof of the state at the end of the line once
     /// there is one.
-    fn go_on(&mut self, finish: &mut Finish) -> Result<Option<u32>, Stop>
+    fn go_on(&mut self, finish: &mut Finish<S>) -> Result<Option<u32>, Stop>
         ensures work { work finish.new.steps ≤ work finish.old.steps }
     {
         let Some(visit) = self.visits.last() else {
@@ -108,7 +109,12 @@ impl Smaller {
     }
 
     /// Begins with the proof of the state at the end of the line, or returns the proof that can replace it at once.
-    fn enter(&mut self, finish: &mut Finish, state: State, number: u32) -> Result<Option<u32>, Stop>
+    fn enter(
+        &mut self,
+        finish: &mut Finish<S>,
+        state: State<S>,
+        number: u32,
+    ) -> Result<Option<u32>, Stop>
         ensures work { work finish.new.steps ≤ work finish.old.steps }
     {
         let Some(proof) = finish.search.proofs.get(number) else {
@@ -128,8 +134,8 @@ impl Smaller {
     /// Begins the visit of a state. It is expanded, which is a step.
     fn begin(
         &mut self,
-        finish: &mut Finish,
-        state: State,
+        finish: &mut Finish<S>,
+        state: State<S>,
         number: u32,
         proof: Proof,
     ) -> Result<(), Stop>
@@ -149,8 +155,8 @@ impl Smaller {
     /// Lists the questions about the turns of a state.
     fn list_questions(
         &mut self,
-        finish: &mut Finish,
-        state: State,
+        finish: &mut Finish<S>,
+        state: State<S>,
         proof: Proof,
     ) -> Result<(), AllocError>
         ensures steps { finish.new.steps ≡ finish.old.steps }
@@ -162,7 +168,12 @@ impl Smaller {
     }
 
     /// Asks whether the winner wins by another turn than the proof's own, which has this many turns.
-    fn ask_another(&mut self, finish: &mut Finish, turns: u64, asked: Asked) -> Result<(), Stop>
+    fn ask_another(
+        &mut self,
+        finish: &mut Finish<S>,
+        turns: u64,
+        asked: Asked<S>,
+    ) -> Result<(), Stop>
         ensures work { work finish.new.steps ≤ work finish.old.steps }
     {
         if let Some(number) = self.found_after(finish, turns, asked)? {
@@ -177,9 +188,9 @@ impl Smaller {
     /// A proof of the state after the turn: one that is known, or, in a proof of many turns, one that some steps find.
     fn found_after(
         &mut self,
-        finish: &mut Finish,
+        finish: &mut Finish<S>,
         turns: u64,
-        asked: Asked,
+        asked: Asked<S>,
     ) -> Result<Option<u32>, Stop>
         ensures work { work finish.new.steps ≤ work finish.old.steps }
     {
@@ -200,7 +211,7 @@ impl Smaller {
     }
 
     /// Takes the proof of the state after the turn that the question was about, or a smaller one that was made elsewhere.
-    fn take_smallest(&mut self, finish: &mut Finish, number: u32) -> Result<(), Stop>
+    fn take_smallest(&mut self, finish: &mut Finish<S>, number: u32) -> Result<(), Stop>
         ensures steps { finish.new.steps ≡ finish.old.steps }
     {
         let Some(visit) = self.visits.last() else {
@@ -216,7 +227,7 @@ impl Smaller {
     }
 
     /// Takes this for the turn that the question was about.
-    fn take(&mut self, finish: &Finish, asked: Asked, below: Below) -> Result<(), Stop> {
+    fn take(&mut self, finish: &Finish<S>, asked: Asked<S>, below: Below) -> Result<(), Stop> {
         let turn = finish.search.shapes.board.turn(asked.step);
         let position = asked.after.key.position;
         self.visits
@@ -225,7 +236,7 @@ impl Smaller {
     }
 
     /// Removes the last state, all of whose questions are answered, and returns its proof.
-    fn leave(&mut self, finish: &mut Finish, visit: Visit) -> Result<u32, Refusal>
+    fn leave(&mut self, finish: &mut Finish<S>, visit: Visit) -> Result<u32, Refusal>
         ensures steps { finish.new.steps ≡ finish.old.steps }
     {
         let Some(state) = self.states.pop() else {
@@ -242,7 +253,11 @@ impl Smaller {
 }
 
 /// Searches the state at the end of the line for a few steps, or plays it out if the defender lives there.
-fn try_turn(finish: &mut Finish, turns: u64, asked: Asked) -> Result<Option<u32>, Stop>
+fn try_turn<S: PlaceSet>(
+    finish: &mut Finish<S>,
+    turns: u64,
+    asked: Asked<S>,
+) -> Result<Option<u32>, Stop>
     ensures work { work finish.new.steps ≤ work finish.old.steps }
 {
     if asked.question == Question::Lives {

@@ -2,7 +2,7 @@
 
 use crate::expanding::step_at;
 use crate::finish::Finish;
-use crate::frame::State;
+use crate::frame::{State, side_of};
 use local_board::{PlaceSet, Room, Side, Step};
 use state_proofs::key_after_move;
 
@@ -64,32 +64,28 @@ fn value_of_room(growth: Growth, room: u32) -> u64 {
     value
 }
 
-impl Finish {
+impl<S: PlaceSet> Finish<S> {
     /// The places where the mover may have moves.
-    pub(crate) fn playable(&self, state: State) -> PlaceSet {
+    pub(crate) fn playable(&self, state: State<S>) -> S {
         let board = &self.search.shapes.board;
         board.empty(state.position).and(board.region())
     }
 
     /// How many states a proof that begins with this one may have: the states after a turn of the mover that have no proof yet, and
     /// this one, each as often as its room says. If it is more than `most`, the result is some number above that.
-    pub(crate) fn value(&self, state: State, room: u32, most: u64) -> u64 {
-        let side = self.search.side(state.key.mover);
+    pub(crate) fn value(&self, state: State<S>, room: u32, most: u64) -> u64 {
+        let side = side_of(self.search.attacker, state.key.mover);
         let one = match side {
             Side::Attacker => value_of_room(LIFE, room),
             Side::Defender => value_of_room(DEATH, room),
         };
         let mut value = one;
-        let plain = self.search.shapes.board.plain(state.position).of(side);
-        let mut rest = self.playable(state).places();
-        for _ in 0..u64::MAX {
+        let quiet = self.search.shapes.board.quiet(state.position).of(side);
+        for place in self.playable(state).places() {
             if value > most {
                 return value;
             }
-            let Some(place) = rest.take() else {
-                return value;
-            };
-            if self.is_new_after(state, side, place, plain) {
+            if self.is_new_after(state, side, place, quiet) {
                 value = value.saturating_add(one);
             }
         }
@@ -97,26 +93,22 @@ impl Finish {
     }
 
     /// Whether the state after the side's move at this place has no proof yet.
-    fn is_new_after(&self, state: State, side: Side, place: usize, plain: PlaceSet) -> bool {
+    fn is_new_after(&self, state: State<S>, side: Side, place: usize, quiet: S) -> bool {
         let board = &self.search.shapes.board;
         let proofs = &self.search.proofs;
         let key = state.key.position;
-        match board.played_key(state.position, key, side, place, plain) {
+        match board.played_key(state.position, key, side, place, quiet) {
             Some(position) => !proofs.knows(key_after_move(state.key, position)),
             None => false,
         }
     }
 
     /// The mover's turn to a state that is already proved for him, by the fewest turns. `None` if there is no such turn.
-    pub(crate) fn known_turn(&self, state: State) -> Option<(Step, u32)> {
-        let side = self.search.side(state.key.mover);
+    pub(crate) fn known_turn(&self, state: State<S>) -> Option<(Step, u32)> {
+        let side = side_of(self.search.attacker, state.key.mover);
         let mut best = None;
         let mut least = u64::MAX;
-        let mut rest = self.playable(state).places();
-        for _ in 0..u64::MAX {
-            let Some(place) = rest.take() else {
-                break;
-            };
+        for place in self.playable(state).places() {
             let after = self.search.after_move_at(state, side, place);
             if after.position != state.position && !self.search.past.has(after.key.position) {
                 if let Some((number, turns)) = self.known_proof(state, after) {
@@ -133,7 +125,7 @@ impl Finish {
     /// The known turn, or the defender's pass if that is better.
     fn better_by_pass(
         &self,
-        state: State,
+        state: State<S>,
         side: Side,
         best: Option<(Step, u32)>,
         least: u64,
@@ -149,7 +141,7 @@ impl Finish {
     }
 
     /// The proof for the mover of a state after one of his turns, and the number of its turns.
-    fn known_proof(&self, state: State, after: State) -> Option<(u32, u64)> {
+    fn known_proof(&self, state: State<S>, after: State<S>) -> Option<(u32, u64)> {
         let number = self.search.proof_after(after.key)?;
         let proof = self.search.proofs.get(number)?;
         if proof.winner == state.key.mover && proof.depth <= MAX_KNOWN_DEPTH {

@@ -13,7 +13,6 @@ use claim_maker::{
 };
 use full_search::first_win;
 use go_points::{Colour, MAX_SIZE};
-use local_board::{MAX_PLACES, count_changing};
 use proof_cert::{Certificate, Node, Version};
 use state_proofs::{Answers, MAX_STATES, Refusal, Shared, Stop};
 use std::alloc::Global;
@@ -198,8 +197,7 @@ fn without_leaves(answers: Answers) -> Answers {
     }
 }
 
-/// The proofs that a search finds. If few points can change, it is the search that recognizes living and hopeless groups by their
-/// shape.
+/// The proofs that the search by proof numbers finds.
 pub(crate) fn proofs_of(
     alloc: Global,
     problem: &Problem,
@@ -210,13 +208,7 @@ pub(crate) fn proofs_of(
     ensures fewer { left.new ≤ left.old }
     ensures all { IfErr result (λ stop. stop ≡ stops.Steps → left.new ≡ 0) }
 {
-    match count_changing(alloc, problem) {
-        Ok(count) if count <= MAX_PLACES => {
-            local_search::prove(alloc, problem, budget.table, answers, left)
-        }
-        Ok(_) => df_pn::prove(alloc, problem, budget.table, answers, left),
-        Err(_) => Err(Stop::Refused(Refusal::Memory)),
-    }
+    local_search::prove(alloc, problem, budget.table, answers, left)
 }
 
 /// The claim of the tree that full search found, with lemmas that may need a past if the checker accepts it, otherwise with those

@@ -12,7 +12,7 @@ use crate::verdict::{Budget, Cause};
 use claim_maker::{Choice, MAX_TRIED, Pasts, Saving, claim_with_lemmas, claim_without_lemmas};
 use full_search::first_win;
 use go_points::Colour;
-use local_board::{MAX_PLACES, count_changing};
+use local_board::{MAX_SMALL, count_changing};
 use proof_cert::{Certificate, Node, Version};
 use state_proofs::{Answers, MAX_STATES, Refusal, Shared};
 use std::alloc::Global;
@@ -53,7 +53,7 @@ pub fn find_short(
     let Ok(changing) = count_changing(alloc, problem) else {
         return Err(Cause::Memory);
     };
-    if changing > MAX_PLACES {
+    if changing > MAX_SMALL {
         let floor = left.saturating_sub(steps_of_full_search(budget.steps));
         match first_win(alloc, problem, floor, left) {
             Ok(Some((winner, main))) => return Ok(claim_of_tree(alloc, problem, winner, main)),

@@ -2,4 +2,4 @@ use Rattle.std.proofs.Common.{◌≡◌}
 use Rattle.local_search.proofs.finish.Finish.list_best_turns.Given as goal
 
 abbrev pub invariant-loop-place : goal.invariant-loop-place
-invariant-loop-place l = l.self.steps ≡ l.fn.self.steps
+invariant-loop-place g l = l.self.steps ≡ l.fn.self.steps

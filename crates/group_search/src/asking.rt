@@ -7,7 +7,7 @@ use crate::keeping::{Kept, Said, keep};
 use crate::limits::{Limits, SIZES};
 use crate::regions::{choices, region_of, set_of_first};
 use crate::rounds::Rounds;
-use go_points::{Colour, Colouring, Point};
+use go_points::{Colour, Colouring, Point, PointSet};
 use safety_search::{NumberSet, Question};
 use std::alloc::{AllocError, Global};
 
@@ -39,7 +39,50 @@ pub fn find_by_first_move(
     search.find_for_mover(mover, point)
 }
 
+/// What is found of the chains of these stones, each by itself: that this side takes them, perhaps as long as stones of its own stand.
+/// Its own stones among them are passed over, and that others live is not asked.
+pub fn find_taken(
+    alloc: Global,
+    board: &Colouring,
+    past: &[Colouring],
+    limits: Limits,
+    taker: Colour,
+    stones: &PointSet,
+) -> Result<Vec<Finding>, AllocError> {
+    let mut search = GroupSearch::new(alloc, board, past, None, limits)?;
+    search.look_at_side(taker)?;
+    let mut taken = Vec::new(alloc);
+    for stone in stones.iter() {
+        if let Some(finding) = search.find_taken_at(taker, stone)? {
+            taken.push(finding)?;
+        }
+    }
+    Ok(taken)
+}
+
 impl GroupSearch {
+    /// What is found of the chain of the stone at the point, if it is not this side's: that this side takes it. `None` also where
+    /// that was found before.
+    fn find_taken_at(
+        &mut self,
+        taker: Colour,
+        point: Point,
+    ) -> Result<Option<Finding>, AllocError> {
+        let Some((owner, chain)) = self.chain_of(point) else {
+            return Ok(None);
+        };
+        if owner == taker || self.proofs.is_known(chain) {
+            return Ok(None);
+        }
+        let _found = self.try_regions(&Wanted {
+            colour: taker,
+            chain,
+            is_supposed: true,
+            is_own: false,
+        })?;
+        Ok(self.finding_of(point))
+    }
+
     /// What is found of the stone at the point.
     fn find_for(&mut self, point: Point) -> Result<Option<Finding>, AllocError> {
         let Some((owner, chain)) = self.chain_of(point) else {

@@ -8,7 +8,7 @@ use crate::proofs::Proofs;
 use crate::regions::chains_beside;
 use crate::rounds::Rounds;
 use go_points::{Colour, Colouring};
-use indexmap::IndexSet;
+use indexmap::{IndexMap, IndexSet};
 use safety_search::{Board, Costs, NumberSet, Question, nearest_points};
 use std::alloc::{AllocError, Global};
 
@@ -57,8 +57,9 @@ pub struct GroupSearch {
     pub(crate) proofs: Proofs,
     pub(crate) black_costs: Costs,
     pub(crate) white_costs: Costs,
-    /// The questions of life that were asked in these rounds; and those of whole areas.
-    pub(crate) tried: IndexSet<Asked>,
+    /// The questions of life that were not answered with yes, each with the weakest chain, or `None` where the steps did not
+    /// suffice; and those of whole areas.
+    pub(crate) tried: IndexMap<Asked, Option<usize>>,
     pub(crate) deep: IndexSet<Asked>,
     /// How many parts are done, of both sides; the rounds that go on, and the next chain that may die.
     parts: usize,
@@ -94,7 +95,7 @@ impl GroupSearch {
             proofs: Proofs::of(alloc, chains)?,
             black_costs,
             white_costs,
-            tried: IndexSet::new(alloc),
+            tried: IndexMap::new(alloc),
             deep: IndexSet::new(alloc),
             parts: 0,
             rounds: None,
@@ -161,10 +162,7 @@ impl GroupSearch {
     fn go_on_with_rounds(&mut self, colour: Colour, part: Part) -> Result<(), AllocError> {
         let rounds = match self.rounds {
             Some(rounds) => rounds,
-            None => {
-                self.forget_tried();
-                self.first_rounds(colour, part)
-            }
+            None => self.first_rounds(colour, part),
         };
         if part == Part::Singles && !self.limits.has_singles {
             self.end_part();
@@ -198,8 +196,45 @@ impl GroupSearch {
         self.try_death(colour, part == Part::DeathsWhile, chain)
     }
 
+    /// Asks a question of life only once: again only for a whole area, which may take more steps. `None` if it was asked before, and
+    /// the steps did not suffice.
+    pub(crate) fn ask_once(
+        &mut self,
+        colour: Colour,
+        asked: Asked,
+        is_whole_area: bool,
+    ) -> Result<Option<Said>, AllocError> {
+        let is_deeper = is_whole_area && self.deep.insert(asked)?;
+        match self.tried.get(&asked).copied() {
+            Some(Some(weak)) => return Ok(Some(Said::No(Some(weak)))),
+            Some(None) if !is_deeper => return Ok(None),
+            _ => {}
+        }
+        let mut limit = self.limits.steps;
+        if is_deeper {
+            limit = self.limits.closed_steps.max(limit);
+        }
+        let said = self.ask(&asked.question(colour), limit)?;
+        self.note_tried(asked, &said)?;
+        Ok(Some(said))
+    }
+
+    /// Notes what was said of a question, if it is not yes, and the question had all its steps.
+    fn note_tried(&mut self, asked: Asked, said: &Said) -> Result<(), AllocError> {
+        let weak = match said {
+            Said::Yes(_) => return Ok(()),
+            Said::No(weak) => *weak,
+            Said::Open => None,
+        };
+        if !self.is_spent() {
+            self.tried.insert(asked, weak)?;
+        }
+        Ok(())
+    }
+
+    /// Forgets which questions were asked, before they are asked with other limits.
     pub(crate) fn forget_tried(&mut self) {
-        self.tried = IndexSet::new(self.alloc);
+        self.tried = IndexMap::new(self.alloc);
         self.deep = IndexSet::new(self.alloc);
     }
 
@@ -250,7 +285,7 @@ impl GroupSearch {
     }
 
     /// Asks a question of life with the other side to move first.
-    pub(crate) fn ask(&mut self, question: &Question, limit: u64) -> Result<Said, AllocError> {
+    fn ask(&mut self, question: &Question, limit: u64) -> Result<Said, AllocError> {
         let limit = self.allowed(limit);
         keep(
             self.alloc,

@@ -16,9 +16,6 @@ const MOST_ROUNDS: usize = 20;
 /// How many points it grows by.
 const MORE_POINTS: usize = 2;
 
-/// The steps for a question that was asked before, to learn which chain is weak.
-const FEW_STEPS: u64 = 200;
-
 /// A region that grows.
 #[derive(Drop)]
 struct Growth {
@@ -144,11 +141,10 @@ impl GroupSearch {
             giving: NumberSet::empty(),
         };
         let is_closed = growth.dropped.is_empty() && self.is_closed(rounds.colour, &region);
-        let limit = self.steps_for(&asked, is_closed)?;
-        match self.ask(&asked.question(rounds.colour), limit)? {
-            Said::Yes(found) => Ok(Grown::Found(found)),
-            Said::No(Some(weak)) => self.feed(rounds, chain, growth, weak),
-            Said::No(None) | Said::Open => Ok(Grown::Over),
+        match self.ask_once(rounds.colour, asked, is_closed)? {
+            Some(Said::Yes(found)) => Ok(Grown::Found(found)),
+            Some(Said::No(Some(weak))) => self.feed(rounds, chain, growth, weak),
+            Some(Said::No(None)) | Some(Said::Open) | None => Ok(Grown::Over),
         }
     }
 
@@ -156,15 +152,6 @@ impl GroupSearch {
     fn is_closed(&self, colour: Colour, region: &NumberSet) -> bool {
         let beside = self.board.beside(region).minus(region);
         beside.is_within(&self.board.stones(colour))
-    }
-
-    /// How many steps the question may use: few if it was asked before.
-    fn steps_for(&mut self, asked: &Asked, is_closed: bool) -> Result<u64, AllocError> {
-        let is_new = self.tried.insert(*asked)?;
-        if is_closed && self.deep.insert(*asked)? {
-            return Ok(self.limits.closed_steps.max(self.limits.steps));
-        }
-        Ok(if is_new { self.limits.steps } else { FEW_STEPS })
     }
 
     /// Gives the weak chain more points, or leaves it outside.

@@ -22,7 +22,7 @@ mod regions;
 mod rounds;
 mod text;
 
-pub use asking::{find_by_first_move, find_for_stone};
+pub use asking::{find_by_first_move, find_for_stone, find_taken};
 pub use finding::{Answer, Finding, Kind};
 pub use group_search::GroupSearch;
 pub use limits::Limits;

@@ -112,12 +112,8 @@ impl GroupSearch {
                 friends,
                 giving: NumberSet::of(chain),
             };
-            if !self.tried.contains(&asked) {
-                let question = asked.question(rounds.colour);
-                if let Said::Yes(found) = self.ask(&question, self.limits.steps)? {
-                    return Ok(Some(found));
-                }
-                self.tried.insert(asked)?;
+            if let Some(Said::Yes(found)) = self.ask_once(rounds.colour, asked, false)? {
+                return Ok(Some(found));
             }
         }
         Ok(None)

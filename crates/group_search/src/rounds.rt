@@ -173,14 +173,11 @@ impl GroupSearch {
                 friends,
                 giving: NumberSet::empty(),
             };
-            if self.tried.insert(asked)? {
-                let question = asked.question(rounds.colour);
-                match self.ask(&question, self.limits.steps)? {
-                    Said::Yes(found) => return Ok(Some(found)),
-                    Said::No(Some(_)) => {}
-                    // Larger regions are not decided either, mostly.
-                    Said::No(None) | Said::Open => rounds.hard.insert(chain),
-                }
+            match self.ask_once(rounds.colour, asked, false)? {
+                Some(Said::Yes(found)) => return Ok(Some(found)),
+                Some(Said::No(Some(_))) | None => {}
+                // Larger regions are not decided either, mostly.
+                Some(Said::No(None)) | Some(Said::Open) => rounds.hard.insert(chain),
             }
         }
         Ok(None)

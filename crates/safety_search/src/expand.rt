@@ -94,7 +94,7 @@ impl Search {
         let numbers = match self.known_numbers(key) {
             Some(numbers) => numbers,
             None if self.game.is_death() => Numbers::open(1),
-            None => Numbers::open(self.far(state).saturating_add(1)),
+            None => self.owners_numbers(state),
         };
         self.children.push(Child { state, numbers })?;
         Ok(())

@@ -32,8 +32,18 @@ pub(crate) struct Parts {
 pub(crate) enum Outlook {
     /// This component, which is to stand, can be taken at once.
     Falls(PlaceSet),
-    /// So many areas are missing until the owner may pass for ever, and so many points until it has them, roughly.
-    Open { missing: u32, far: u32 },
+    /// None can.
+    Open(Distance),
+}
+
+/// How far a state is from where each side wants it.
+#[derive(Clone, Copy)]
+pub(crate) struct Distance {
+    /// How many areas are missing until the owner may pass for ever, and how many points until it has them, roughly.
+    pub(crate) missing: u32,
+    pub(crate) far: u32,
+    /// The fewest liberties of a component that is to stand, with one more where it has others in another region.
+    pub(crate) liberties: u32,
 }
 
 impl Parts {
@@ -89,10 +99,11 @@ impl Parts {
         None
     }
 
-    /// What is missing for all components, with these areas.
-    fn missing(&self, game: &LocalGame, empty: PlaceSet, areas: &Parts) -> Outlook {
+    /// How far all components are from rest, with these areas, and the weakest from being taken.
+    fn distance(&self, game: &LocalGame, empty: PlaceSet, areas: &Parts) -> Distance {
         let mut missing: u32 = 0;
         let mut far: u32 = 0;
+        let mut liberties = u32::MAX;
         for index in 0..ROOM {
             if index < self.count && !self.parts[index].places.meets(game.friends) {
                 let part = self.parts[index];
@@ -104,9 +115,19 @@ impl Parts {
                 if !wants_one {
                     far = far.saturating_add(second);
                 }
+                let own = part
+                    .near
+                    .and(empty)
+                    .len()
+                    .saturating_add(2u32.saturating_sub(wanted));
+                liberties = liberties.min(own);
             }
         }
-        Outlook::Open { missing, far }
+        Distance {
+            missing,
+            far,
+            liberties,
+        }
     }
 
     /// Of the areas beside a component, which has these places beside it: how many are whole, and how far the two best are from
@@ -162,23 +183,24 @@ impl Scratch {
             return Outlook::Falls(component);
         }
         if game.is_death() {
-            return Outlook::Open { missing: 1, far: 0 };
+            return Outlook::Open(Distance {
+                missing: 1,
+                far: 0,
+                liberties: 1,
+            });
         }
-        self.find_missing(game, state)
+        Outlook::Open(self.find_distance(game, state))
     }
 
-    /// How far the state is from one where its owner may pass for ever, whoever is to move.
-    pub(crate) fn far(&mut self, game: &LocalGame, state: State) -> u32 {
+    /// How far the state is from where each side wants it, whoever is to move.
+    pub(crate) fn distance(&mut self, game: &LocalGame, state: State) -> Distance {
         let _found = self.components.find(game, state.own);
-        match self.find_missing(game, state) {
-            Outlook::Open { far, .. } => far,
-            Outlook::Falls(_) => 0,
-        }
+        self.find_distance(game, state)
     }
 
-    fn find_missing(&mut self, game: &LocalGame, state: State) -> Outlook {
+    fn find_distance(&mut self, game: &LocalGame, state: State) -> Distance {
         let _found = self.areas.find(game, game.region.minus(state.own));
         self.components
-            .missing(game, game.empty(state), &self.areas)
+            .distance(game, game.empty(state), &self.areas)
     }
 }

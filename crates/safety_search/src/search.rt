@@ -162,13 +162,14 @@ impl Search {
                 self.note_fall(component);
                 Numbers::lost()
             }
-            Outlook::Open { missing, far } => {
+            Outlook::Open(distance) => {
                 if self.game.is_death() {
                     self.death_numbers(state)
-                } else if missing == 0 {
+                } else if distance.missing == 0 {
                     Numbers::won()
                 } else {
-                    Numbers::open(far.saturating_add(1))
+                    // With one liberty it falls.
+                    Numbers::expected(distance.far, distance.liberties.saturating_sub(1))
                 }
             }
         }
@@ -186,14 +187,15 @@ impl Search {
     /// Whether the owner may pass for ever.
     pub(crate) fn is_at_rest(&mut self, state: State) -> bool {
         match self.scratch.outlook(&self.game, state) {
-            Outlook::Open { missing, .. } => missing == 0,
+            Outlook::Open(distance) => distance.missing == 0,
             Outlook::Falls(_) => false,
         }
     }
 
-    /// How far the state is from rest, with the owner to move.
-    pub(crate) fn far(&mut self, state: State) -> u32 {
-        self.scratch.far(&self.game, state)
+    /// The same with the owner to move, where stones are to be kept.
+    pub(crate) fn owners_numbers(&mut self, state: State) -> Numbers {
+        let distance = self.scratch.distance(&self.game, state);
+        Numbers::expected(distance.far, distance.liberties)
     }
 
     /// Notes which of the named chains could be taken.

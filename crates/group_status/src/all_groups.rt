@@ -38,6 +38,8 @@ pub(crate) struct Course {
     pub(crate) dead: PointSet,
     pub(crate) unsettled: PointSet,
     pub(crate) open: PointSet,
+    /// The stones that are proved to be taken, perhaps as long as others stand.
+    lost: PointSet,
     totals: Totals,
     /// How many stones the board has.
     all: usize,
@@ -52,6 +54,7 @@ impl Course {
             dead: PointSet::new(),
             unsettled: PointSet::new(),
             open: PointSet::new(),
+            lost: PointSet::new(),
             totals: Totals::none(),
             all,
         }
@@ -99,6 +102,7 @@ fn each_group<W: Write, N: Write>(
 ) -> Result<Course, Stop> {
     let mut course = Course::of(stone_count(problem.colouring()));
     let conditional = say_proved(alloc, problem, request, &mut course, writer, notes)?;
+    course.lost = taken_stones(&course.dead, conditional.as_slice());
     say_others(
         alloc,
         problem,
@@ -238,6 +242,19 @@ fn say_others<W: Write, N: Write>(
     Ok(())
 }
 
+/// These dead stones, and those of the proofs.
+fn taken_stones(dead: &PointSet, proofs: &[Proof]) -> PointSet {
+    let mut stones = *dead;
+    for proof in proofs {
+        if let Some(proven) = proof.proven() {
+            for stone in proven.finding().stones.iter() {
+                stones.insert(stone);
+            }
+        }
+    }
+    stones
+}
+
 /// The first of these proofs that is about the stone at the point.
 fn proof_at(proofs: &[Proof], point: Point) -> Option<&Proof> {
     for proof in proofs {
@@ -265,9 +282,10 @@ fn say_other<W: Write, N: Write>(
     let Some(asked) = problem_at(alloc, problem, point)? else {
         return Ok(());
     };
-    let Some(group) = Group::new(alloc, asked)? else {
+    let Some(mut group) = Group::new(alloc, asked)? else {
         return Ok(());
     };
+    group.lost = course.lost;
     let (said, line) = said_and_line(alloc, &group, request, budget, proof)?;
     note(course, &group.position.stones(group.target), said);
     say(line.as_str(), writer)?;

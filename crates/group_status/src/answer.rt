@@ -1,17 +1,21 @@
 //! The answer about one group: by what is proved of it, by what each side's first move is proved to do, or by the procedures.
 
+ghost use Rattle.std.specs.Prelude.{IfOk, IfSome};
+ghost use Rattle.proved_groups.specs.Proven.{IsOfStoneByMove};
+ghost use Rattle.group_status.specs.About.{IsDecisionOf, IsProofOf, IsToldOf};
+
 use crate::answer_lines::{MoveAsked, answer_lines, answer_object, barred_line};
 use crate::answer_record::{answers_record, first_moves_record};
 use crate::claims::{claims, first_moves_claims, proof_claim};
 use crate::group::Group;
 use crate::json::{found_object, judged_object};
 use crate::lines::{Report, found_lines, judged_lines};
-use crate::move_proof::{by_move_lines, unsettled_lines};
+use crate::move_proof::{Decided, decided_lines};
 use crate::proof::{Proof, proof_lines};
 use crate::proof_json::{first_moves_object, proof_object};
 use crate::solutions::{Told, solutions};
 use crate::table::Table;
-use crate::verdict::{found, judge};
+use crate::verdict::{found_alone, judge_alone};
 use go_points::Colour;
 use group_words::{Finding, Form, Judgement, Request, Side};
 use pn_search::Budget;
@@ -43,8 +47,8 @@ pub(crate) fn answered<N: Write>(
         )?);
     }
     let first_moves = group.first_moves(alloc, request.first, request.steps)?;
-    if is_decided(request, group, &first_moves) {
-        return answered_by_moves(alloc, request, group, &first_moves);
+    if let Some(decided) = decided_by(request, group, &first_moves) {
+        return answered_by_moves(alloc, request, group, &decided, &first_moves);
     }
     answered_by_procedures(alloc, request, group, budget, &first_moves, notes)
 }
@@ -61,11 +65,11 @@ fn answered_by_procedures<N: Write>(
     let is_quick = request.is_quick;
     let mut table = Table::new(alloc, budget, request.is_told);
     if let Some(first) = request.first {
-        let (finding, procedures) = found(alloc, group, &mut table, first, is_quick, notes)?;
+        let (finding, procedures) = found_alone(alloc, group, &mut table, first, is_quick, notes)?;
         let report = Report::of(group, &table, first_moves, procedures, request.is_why);
         return answered_one(alloc, request.form, report, first, finding);
     }
-    let (judged, procedures) = judge(alloc, group, &mut table, is_quick, first_moves, notes)?;
+    let (judged, procedures) = judge_alone(alloc, group, &mut table, is_quick, first_moves, notes)?;
     let report = Report::of(group, &table, first_moves, procedures, request.is_why);
     answered_both(alloc, request.form, report, &judged)
 }
@@ -90,7 +94,6 @@ fn answered_to_move(
     let asked = MoveAsked {
         size,
         target: group.target,
-        is_alive,
         mover,
         point,
     };
@@ -103,21 +106,51 @@ fn answered_to_move(
         point,
         request.steps,
     )?;
+    answered_after(alloc, request, group, &asked, &answer)
+}
+
+/// What is proved after that move.
+fn answered_after(
+    alloc: Global,
+    request: &Request,
+    group: &Group,
+    asked: &MoveAsked,
+    answer: &AnswerTo,
+) -> Result<Output, AllocError>
+    requires { IsToldOf group.now.problem group.now.target asked.now answer.now }
+{
     if let AnswerTo::Barred = answer {
         return refused(barred_line(alloc, asked)?);
     }
     if request.form == Form::Json {
         let stones = group.position.stones(group.target);
-        return text_of(answer_object(alloc, asked, &stones, &answer)?);
+        return text_of(answer_object(alloc, asked, &stones, answer)?);
     }
-    text_of(answer_lines(alloc, asked, &answer)?)
+    text_of(answer_lines(alloc, asked, answer)?)
 }
 
-/// Whether the first moves that are proved to win answer all that is asked.
-fn is_decided(request: &Request, group: &Group, first_moves: &FirstMoves) -> bool {
+/// What the first moves that are proved to win decide, if that is all that is asked.
+fn decided_by<'a>(
+    request: &Request,
+    group: &Group,
+    first_moves: &'a FirstMoves,
+) -> Option<Decided<'a>>
+    requires attack { IfSome first_moves.now.attack
+        (IsOfStoneByMove group.now.problem group.now.target) }
+    requires defence { IfSome first_moves.now.defence
+        (IsOfStoneByMove group.now.problem group.now.target) }
+    ensures { IfSome result (IsDecisionOf group.now.problem group.now.target
+        group.now.defender request.now.first) }
+{
     match request.first {
-        Some(side) => first_moves.by(side.colour(group.defender)).is_some(),
-        None => first_moves.both().is_some(),
+        Some(side) => match first_moves.by(side.colour(group.defender)) {
+            Some(proven) => Some(Decided::Wins(proven)),
+            None => None,
+        },
+        None => match first_moves.both() {
+            Some(both) => Some(Decided::Unsettled(both)),
+            None => None,
+        },
     }
 }
 
@@ -126,23 +159,18 @@ fn answered_by_moves(
     alloc: Global,
     request: &Request,
     group: &Group,
+    decided: &Decided<'_>,
     first_moves: &FirstMoves,
-) -> Result<Output, AllocError> {
-    let (size, target, first) = (group.problem.size(), group.target, request.first);
+) -> Result<Output, AllocError>
+    requires { IsDecisionOf group.now.problem group.now.target
+        group.now.defender request.now.first decided.now }
+{
+    let (size, target) = (group.problem.size(), group.target);
     if request.form == Form::Json {
         let stones = group.position.stones(target);
-        return text_of(first_moves_object(alloc, group, &stones, first, first_moves)?);
+        return text_of(first_moves_object(alloc, group, &stones, decided, first_moves)?);
     }
-    let lines = match (first, first_moves.both()) {
-        (None, Some((attacker, defender))) => {
-            unsettled_lines(alloc, size, target, attacker, defender)?
-        }
-        (Some(side), _) => match first_moves.by(side.colour(group.defender)) {
-            Some(proven) => by_move_lines(alloc, size, target, proven)?,
-            None => String::new(alloc),
-        },
-        (None, None) => String::new(alloc),
-    };
+    let lines = decided_lines(alloc, size, target, decided)?;
     match request.form {
         Form::Claims(_) => text_of(first_moves_claims(alloc, group, first_moves, lines.as_str())?),
         Form::Record => {
@@ -154,7 +182,10 @@ fn answered_by_moves(
 }
 
 /// Why the group is alive or dead, where that is proved.
-fn proof_of(alloc: Global, group: &Group, steps: u64) -> Result<Option<Proof>, AllocError> {
+fn proof_of(alloc: Global, group: &Group, steps: u64) -> Result<Option<Proof>, AllocError>
+    ensures { IfOk result
+        (λ o. IfSome o (IsProofOf group.now.problem group.now.target)) }
+{
     if let Some(shape) = ByShape::of(group.problem.colouring(), group.target, group.defender) {
         let proven = proven_stone(alloc, &group.problem, group.target, 0)?;
         return Ok(Some(Proof::Shape(shape, proven)));
@@ -171,7 +202,9 @@ fn answered_by_proof(
     request: &Request,
     group: &Group,
     proof: &Proof,
-) -> Result<Output, AllocError> {
+) -> Result<Output, AllocError>
+    requires { IsProofOf group.now.problem group.now.target proof.now }
+{
     let size = group.problem.size();
     let (target, defender, first) = (group.target, group.defender, request.first);
     if request.form == Form::Json {

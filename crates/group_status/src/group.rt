@@ -1,6 +1,9 @@
 //! The group that is asked about.
 
-use go_points::{Colour, Point, PointSet};
+ghost use Rattle.std.specs.Prelude.{IfOk, IfSome};
+ghost use Rattle.proved_groups.specs.Proven.{IsOfStoneByMove};
+
+use go_points::{Colour, Point, PointSet, Size};
 use group_words::Side;
 use proved_groups::FirstMoves;
 use regions::{Order, Position, Supposed};
@@ -16,6 +19,8 @@ pub(crate) struct Group {
     pub(crate) order: Order,
     pub(crate) target: Point,
     pub(crate) defender: Colour,
+    /// Stones of the board that are proved to be taken, perhaps as long as others stand: as far as that was asked before.
+    pub(crate) lost: PointSet,
 }
 
 impl Group {
@@ -33,7 +38,34 @@ impl Group {
             order,
             target,
             defender,
+            lost: PointSet::new(),
         }))
+    }
+
+    /// The attacker's stones.
+    pub(crate) fn attackers(&self) -> PointSet {
+        let attacker = self.defender.opponent();
+        let colouring = self.problem.colouring();
+        let size = colouring.size();
+        let mut stones = PointSet::new();
+        for number in 0..size.area() {
+            if colouring.cell(number).is_stone_of(attacker) {
+                stones.insert(size.point_at(number));
+            }
+        }
+        stones
+    }
+
+    /// Those of these stones, of the attacker's, that are beside the target's chain.
+    pub(crate) fn beside(&self, stones: &PointSet) -> PointSet {
+        let own = self.position.stones(self.target);
+        let mut beside = PointSet::new();
+        for stone in stones.iter() {
+            if !own.has(stone) && touches(self.problem.size(), stone, &own) {
+                beside.insert(stone);
+            }
+        }
+        beside
     }
 
     /// What is proved of it by the first move of either side, or of this one alone.
@@ -42,7 +74,12 @@ impl Group {
         alloc: Global,
         first: Option<Side>,
         steps: u64,
-    ) -> Result<FirstMoves, AllocError> {
+    ) -> Result<FirstMoves, AllocError>
+        ensures attack { IfOk result (λ m. IfSome m.attack
+            (IsOfStoneByMove self.now.problem self.now.target)) }
+        ensures defence { IfOk result (λ m. IfSome m.defence
+            (IsOfStoneByMove self.now.problem self.now.target)) }
+    {
         let mover = match first {
             Some(side) => Some(side.colour(self.defender)),
             None => None,
@@ -82,4 +119,9 @@ impl Group {
             Err(_) => Ok(None),
         }
     }
+}
+
+/// Whether one of these stones is beside the point.
+fn touches(size: Size, point: Point, stones: &PointSet) -> bool {
+    size.holds(point) && point.neighbours(size).iter().any(|it| stones.has(*it))
 }

@@ -3,7 +3,7 @@
 use crate::group::Group;
 use crate::json::judged_object;
 use crate::lines::{Report, first_line, open_line};
-use crate::move_proof::unsettled_line;
+use crate::move_proof::{Decided, unsettled_line};
 use crate::proof::{Proof, proved_line};
 use crate::proof_json::{first_moves_object, proof_object};
 use crate::table::Table;
@@ -17,9 +17,10 @@ use std::alloc::{AllocError, Global};
 /// The first, quick look at a group gets one part in this many of the steps.
 const QUICK_SHARE: u64 = 10;
 
-/// What is said about the group: that each side's first move decides it, if that is proved with few steps; what a quick look found, if
-/// that is sure; this proof, which depends on stones that are only supposed to stand; first moves that are proved with all steps; and
-/// otherwise what both procedures find.
+/// What is said about the group: that it lives, if a quick look finds that surely; that each side's first move decides it, if that is
+/// proved with few steps; what the quick look finds with these, if that is sure, or life if there is no such proof of death; this
+/// proof, which depends on stones that are only supposed to stand; first moves that are proved with all steps; and otherwise what both
+/// procedures find.
 pub(crate) fn said_and_line(
     alloc: Global,
     group: &Group,
@@ -36,12 +37,17 @@ pub(crate) fn said_and_line(
         steps: (budget.steps / QUICK_SHARE).max(1),
         table: budget.table,
     };
+    let none = group.first_moves(alloc, None, 0)?;
+    let (word, quick) = line_by(alloc, group, Procedures::First, few, &none, is_json)?;
+    if quick.0 == Said::Alive && word == Word::Sure {
+        return Ok(quick);
+    }
     let moves = group.first_moves(alloc, None, few.steps)?;
     if let Some(line) = line_by_moves(alloc, group, &moves, is_json)? {
         return Ok((Said::Unsettled, line));
     }
-    let (word, quick) = line_by(alloc, group, Procedures::First, few, &moves, is_json)?;
-    if word == Word::Sure {
+    let (word, quick) = with_moves(alloc, group, few, &moves, (word, quick), is_json)?;
+    if word == Word::Sure || quick.0 == Said::Alive && proof.is_none() {
         return Ok(quick);
     }
     if let Some(proof) = proof {
@@ -58,6 +64,22 @@ pub(crate) fn said_and_line(
     Ok(both)
 }
 
+/// What the quick look found, or finds anew if a first move is proved to win.
+fn with_moves(
+    alloc: Global,
+    group: &Group,
+    few: Budget,
+    moves: &FirstMoves,
+    found: (Word, (Said, String)),
+    is_json: bool,
+) -> Result<(Word, (Said, String)), AllocError> {
+    let attack = moves.outright(group.defender.opponent());
+    if attack.is_none() && moves.outright(group.defender).is_none() {
+        return Ok(found);
+    }
+    line_by(alloc, group, Procedures::First, few, moves, is_json)
+}
+
 /// What these procedures find: how far that is to be trusted, what is said, and the line or the object.
 fn line_by(
     alloc: Global,
@@ -70,6 +92,7 @@ fn line_by(
     // The notes of a run are about its groups, not about their questions.
     let mut silent: Vec<u8> = Vec::new(alloc);
     let mut table = Table::new(alloc, budget, false);
+    table.lost = group.lost;
     let judged = judge_by(alloc, group, &mut table, procedures, moves, &mut silent)?;
     let report = Report::of(group, &table, moves, procedures, false);
     Ok((judged.word, line_of(alloc, report, &judged, is_json)?))
@@ -84,15 +107,15 @@ fn line_by_moves(
 ) -> Result<Option<String>, AllocError> {
     let (size, target) = (group.problem.size(), group.target);
     match moves.both() {
-        Some((attack, defence)) => {
-            if !attack.supposed().is_empty() {
+        Some(both) => {
+            if !both.attack().supposed().is_empty() {
                 return Ok(None);
             }
             if !is_json {
-                return Ok(Some(unsettled_line(alloc, size, target, attack, defence)?));
+                return Ok(Some(unsettled_line(alloc, size, target, &both)?));
             }
             let stones = group.position.stones(target);
-            let text = first_moves_object(alloc, group, &stones, None, moves)?;
+            let text = first_moves_object(alloc, group, &stones, &Decided::Unsettled(both), moves)?;
             Ok(Some(text))
         }
         None => Ok(None),

@@ -1,7 +1,11 @@
 //! What is found, as JSON: one object for each target, each on its own line.
 
+ghost use Rattle.std.specs.Prelude.{◌≡◌, IfOk, string_bytes};
+ghost use Rattle.group_status.specs.Lines.{begun_text};
+
 use crate::group::Group;
 use crate::lines::{Report, is_by_ko, push_point, push_turn_name};
+use crate::names::point_name;
 use crate::proof_json::push_first_moves;
 use crate::table::{Row, Table};
 use crate::verdict::Procedures;
@@ -93,12 +97,11 @@ fn begun(alloc: Global, group: &Group) -> Result<String, AllocError> {
 }
 
 /// The beginning of an object with this target.
-pub(crate) fn begun_at(alloc: Global, size: Size, target: Point) -> Result<String, AllocError> {
-    let mut text = String::new(alloc);
-    text.push_str("{\"target\":\"")?;
-    push_point(&mut text, size, target)?;
-    text.push('"')?;
-    Ok(text)
+pub(crate) fn begun_at(alloc: Global, size: Size, target: Point) -> Result<String, AllocError>
+    ensures { IfOk result (λ text. string_bytes text ≡ begun_text size target) }
+{
+    let name = point_name(alloc, size, target)?;
+    format!(in alloc; "{{\"target\":\"{name}\"")
 }
 
 fn push_winner(

@@ -4,7 +4,7 @@ ghost use Rattle.std.specs.Prelude.{◌≡◌};
 ghost use Rattle.group_words.specs.Sides.{end_text};
 
 use crate::group::Group;
-use crate::move_proof::push_by_move;
+use crate::move_proof::move_lines;
 use crate::question_lines::{push_all_walls, push_ko};
 use crate::table::Table;
 use crate::verdict::Procedures;
@@ -99,7 +99,10 @@ fn push_side(
         .first_moves
         .outright(first.colour(report.group.defender))
     {
-        Some(proven) => push_by_move(alloc, text, report.group.problem.size(), proven),
+        Some(proven) => {
+            let lines = move_lines(alloc, report.group.problem.size(), proven)?;
+            text.push_str(lines.as_str())
+        }
         None => push_finding(text, report, first, finding),
     }
 }

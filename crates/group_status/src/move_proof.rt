@@ -1,122 +1,134 @@
 //! What a first move does to a group, where that is proved, as lines for a reader.
 
-ghost use Rattle.std.specs.Prelude.{IfOk, string_bytes};
-ghost use Rattle.proved_groups.specs.Proven.{IsUnsettled};
-ghost use Rattle.group_status.specs.Lines.{IsMoveLine, IsUnsettledLine, IsWinnerByMoveLine};
+ghost use Rattle.std.specs.Prelude.{◌≡◌, IfOk, string_bytes};
+ghost use Rattle.group_status.specs.Lines.{BeginsWith, by_text, IsDecidedLine, IsMoveLine, IsWinnerByMoveLine, unsettled_text};
 
-use crate::proof::{point_name, push_condition, push_details};
+use crate::condition::condition_by_move;
+use crate::names::point_name;
+use crate::proof::{fate_line, won_line};
+use crate::reasons::push_details;
 use go_points::{Point, Size};
-use proved_groups::ProvenByMove;
+use proved_groups::{ProvenByMove, Unsettled};
 use std::alloc::{AllocError, Global};
 use tool_parts::colour_name;
 
-/// The lines of a group that each side decides by moving first.
-pub(crate) fn unsettled_lines(
+/// What first moves decide, of all that is asked about a group.
+#[derive(Clone, Copy)]
+pub(crate) enum Decided<'a> {
+    /// Each side decides it by moving first.
+    Unsettled(Unsettled<'a>),
+    /// The side that is asked about wins by moving first.
+    Wins(&'a ProvenByMove),
+}
+
+/// The lines of a group of which this is decided.
+pub(crate) fn decided_lines(
     alloc: Global,
     size: Size,
     target: Point,
-    attack: &ProvenByMove,
-    defence: &ProvenByMove,
+    decided: &Decided<'_>,
 ) -> Result<String, AllocError>
-    requires { IsUnsettled attack.now defence.now }
+    ensures { IfOk result
+        (λ text. BeginsWith (IsDecidedLine size target decided.now) (string_bytes text)) }
 {
-    let mut text = unsettled_line(alloc, size, target, attack, defence)?;
-    push_by_move(alloc, &mut text, size, attack)?;
-    push_by_move(alloc, &mut text, size, defence)?;
-    Ok(text)
+    let line = decided_line(alloc, size, target, decided)?;
+    let moves = match decided {
+        Decided::Unsettled(both) => {
+            let attack = move_lines(alloc, size, both.attack())?;
+            let defence = move_lines(alloc, size, both.defence())?;
+            format!(in alloc; "{attack}{defence}")?
+        }
+        Decided::Wins(proven) => move_lines(alloc, size, proven)?,
+    };
+    format!(in alloc; "{line}{moves}")
 }
 
-/// The first of these lines. Of the defence only that it decides is needed.
+/// The first of these lines.
+fn decided_line(
+    alloc: Global,
+    size: Size,
+    target: Point,
+    decided: &Decided<'_>,
+) -> Result<String, AllocError>
+    ensures { IfOk result (λ text. IsDecidedLine size target decided.now (string_bytes text)) }
+{
+    match decided {
+        Decided::Unsettled(both) => unsettled_line(alloc, size, target, both),
+        Decided::Wins(proven) => winner_line(alloc, size, target, proven),
+    }
+}
+
+/// That each side decides the group by moving first.
 pub(crate) fn unsettled_line(
     alloc: Global,
     size: Size,
     target: Point,
-    attack: &ProvenByMove,
-    _defence: &ProvenByMove,
+    both: &Unsettled<'_>,
 ) -> Result<String, AllocError>
-    requires { IsUnsettled attack.now _defence.now }
-    ensures { IfOk result (λ text. IsUnsettledLine attack.now _defence.now (string_bytes text)) }
+    ensures { IfOk result (λ text. string_bytes text ≡ unsettled_text size target both.now) }
 {
-    let name = point_name(alloc, size, target)?;
-    let condition = condition_of(alloc, size, attack)?;
-    format!(in alloc; "{name}: unsettled (proved{condition})\n")
+    let condition = condition_by_move(alloc, size, both.attack())?;
+    fate_line(alloc, size, target, "unsettled", condition.as_str())
 }
 
-/// On which stones it depends that they have liberties elsewhere, if on any.
-fn condition_of(alloc: Global, size: Size, proven: &ProvenByMove) -> Result<String, AllocError> {
-    let mut text = String::new(alloc);
-    let owner = proven.problem().defender();
-    push_condition(&mut text, size, owner, &proven.supposed())?;
-    Ok(text)
-}
-
-/// The lines if only the side was asked about whose first move decides.
-pub(crate) fn by_move_lines(
-    alloc: Global,
-    size: Size,
-    target: Point,
-    proven: &ProvenByMove,
-) -> Result<String, AllocError> {
-    let mut text = winner_line(alloc, size, target, proven)?;
-    push_by_move(alloc, &mut text, size, proven)?;
-    Ok(text)
-}
-
-/// The first of these lines.
+/// That the side wins whose first move decides.
 fn winner_line(
     alloc: Global,
     size: Size,
     target: Point,
     proven: &ProvenByMove,
 ) -> Result<String, AllocError>
-    ensures { IfOk result (λ text. IsWinnerByMoveLine proven.now (string_bytes text)) }
+    ensures { IfOk result
+        (λ text. IsWinnerByMoveLine size target proven.now (string_bytes text)) }
 {
-    let name = point_name(alloc, size, target)?;
-    let condition = condition_of(alloc, size, proven)?;
-    let winner = colour_name(proven.winner());
-    format!(in alloc; "{name}: {winner} wins (proved{condition})\n")
+    let condition = condition_by_move(alloc, size, proven)?;
+    won_line(alloc, size, target, proven.winner(), condition.as_str())
 }
 
 /// Who moves first, what happens then and by which move.
 fn move_line(alloc: Global, size: Size, proven: &ProvenByMove) -> Result<String, AllocError>
-    ensures { IfOk result (λ text. IsMoveLine proven.now (string_bytes text)) }
+    ensures { IfOk result (λ text. IsMoveLine size proven.now (string_bytes text)) }
 {
     let mover = colour_name(proven.mover());
     let (first, word) = proven.end();
-    let name = by_which(alloc, size, first)?;
-    format!(in alloc; "  {mover} first: {word}{name} (proved)\n")
+    let by_which = by_which(alloc, size, first)?;
+    format!(in alloc; "  {mover} first: {word}{by_which} (proved)\n")
 }
 
 /// By which move, if one is known.
-fn by_which(alloc: Global, size: Size, first: Option<Point>) -> Result<String, AllocError> {
-    let Some(point) = first else {
-        return Ok(String::new(alloc));
-    };
-    let name = point_name(alloc, size, point)?;
-    format!(in alloc; ", by {name}")
+fn by_which(alloc: Global, size: Size, first: Option<Point>) -> Result<String, AllocError>
+    ensures { IfOk result (λ text. string_bytes text ≡ by_text size first) }
+{
+    match first {
+        Some(point) => {
+            let name = point_name(alloc, size, point)?;
+            format!(in alloc; ", by {name}")
+        }
+        None => Ok(String::new(alloc)),
+    }
 }
 
-/// Appends who moves first, what happens then and by which move, and why.
-pub(crate) fn push_by_move(
+/// Who moves first, what happens then and by which move, and why.
+pub(crate) fn move_lines(
     alloc: Global,
-    text: &mut String,
     size: Size,
     proven: &ProvenByMove,
-) -> Result<(), AllocError> {
+) -> Result<String, AllocError>
+    ensures { IfOk result
+        (λ text. BeginsWith (IsMoveLine size proven.now) (string_bytes text)) }
+{
     let line = move_line(alloc, size, proven)?;
-    text.push_str(line.as_str())?;
     let mover = colour_name(proven.mover());
     let other = colour_name(proven.mover().opponent());
-    if proven.is_alive() {
-        write!(
-            text,
+    let mut reasons = if proven.is_alive() {
+        format!(in alloc;
             "    then nothing that {other} plays takes the kept stones, anywhere on the board, if {mover} answers in the region\n"
-        )?;
+        )?
     } else {
-        write!(
-            text,
+        format!(in alloc;
             "    then, whatever {other} plays anywhere on the board, {mover} takes a stone of it by playing in the region\n"
-        )?;
-    }
-    push_details(text, size, proven.finding(), "    ")
+        )?
+    };
+    push_details(alloc, &mut reasons, size, proven.finding(), "    ")?;
+    format!(in alloc; "{line}{reasons}")
 }

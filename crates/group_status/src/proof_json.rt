@@ -1,14 +1,14 @@
 //! A group whose fate is proved, as an object of JSON.
 
-ghost use Rattle.std.specs.Prelude.{◌≡◌, IfOk, string_bytes};
-ghost use Rattle.proved_groups.specs.Proven.{IsUnsettled};
-ghost use Rattle.tool_parts.specs.Says.{letter_text};
-ghost use Rattle.group_status.specs.Lines.{IsStatusFields, IsUnsettledFields, IsWinnerByMoveFields, IsWinnerFields, winner_fields};
+ghost use Rattle.std.specs.Prelude.{◌≡◌, codes, IfOk, string_bytes};
+ghost use Rattle.group_status.specs.Lines.{HasFields, IsDecidedFields, IsFields, IsStatusFields, IsWinnerByMoveFields, IsWinnerFields, status_fields, winner_fields};
 
 use crate::group::Group;
 use crate::json::{begun_at, push_points, push_set};
 use crate::lines::push_point;
-use crate::proof::{Proof, push_answer_name};
+use crate::move_proof::Decided;
+use crate::proof::Proof;
+use crate::reasons::push_answer_name;
 use go_points::{Colour, Point, PointSet, Size};
 use group_search::{Answer, Finding, Kind};
 use group_words::Side;
@@ -37,35 +37,47 @@ pub(crate) fn proof_object(
     first: Option<Side>,
     stones: &PointSet,
     proof: &Proof,
-) -> Result<String, AllocError> {
-    let mut text = begun_at(alloc, size, target)?;
-    let said = match first {
-        None => status_fields(alloc, proof)?,
-        Some(side) => winner_of_proof(alloc, side.colour(defender), proof)?,
-    };
-    text.push_str(said.as_str())?;
+) -> Result<String, AllocError>
+    ensures { IfOk result (λ text.
+        HasFields size target (IsFields defender first proof.now) (string_bytes text)) }
+{
+    let begun = begun_at(alloc, size, target)?;
+    let fields = proof_fields(alloc, defender, first, proof)?;
+    let mut rest = String::new(alloc);
     match proof.proven() {
         Some(proven) => {
-            push_points(&mut text, "stones", size, &proven.finding().stones)?;
-            push_proof(&mut text, size, proven.finding(), &proven.supposed())?;
+            push_points(&mut rest, "stones", size, &proven.finding().stones)?;
+            push_proof(&mut rest, size, proven.finding(), &proven.supposed())?;
         }
-        None => push_points(&mut text, "stones", size, stones)?,
+        None => push_points(&mut rest, "stones", size, stones)?,
     }
-    text.push_str(",\"questions\":[]}\n")?;
-    Ok(text)
+    rest.push_str(",\"questions\":[]}\n")?;
+    format!(in alloc; "{begun}{fields}{rest}")
 }
 
-/// The status, and that it is proved.
-fn status_fields(alloc: Global, proof: &Proof) -> Result<String, AllocError>
+/// What the proof says: of the group, or of who wins if one side is asked about.
+fn proof_fields(
+    alloc: Global,
+    defender: Colour,
+    first: Option<Side>,
+    proof: &Proof,
+) -> Result<String, AllocError>
+    ensures { IfOk result (λ text. IsFields defender first proof.now (string_bytes text)) }
+{
+    match first {
+        None => status_of_proof(alloc, proof),
+        Some(side) => winner_of_proof(alloc, side.colour(defender), proof),
+    }
+}
+
+fn status_of_proof(alloc: Global, proof: &Proof) -> Result<String, AllocError>
     ensures { IfOk result (λ text. IsStatusFields proof.now (string_bytes text)) }
 {
-    let word = proof.status();
-    format!(in alloc; ",\"status\":\"{word}\",\"word\":\"proved\"")
+    status_fields(alloc, proof.status())
 }
 
-/// Who wins where this side moves first, and that it is proved.
 fn winner_of_proof(alloc: Global, mover: Colour, proof: &Proof) -> Result<String, AllocError>
-    ensures { IfOk result (λ text. IsWinnerFields proof.now (string_bytes text)) }
+    ensures { IfOk result (λ text. IsWinnerFields mover proof.now (string_bytes text)) }
 {
     winner_fields(alloc, mover, proof.winner())
 }
@@ -77,63 +89,51 @@ fn winner_by_move(alloc: Global, proven: &ProvenByMove) -> Result<String, AllocE
     winner_fields(alloc, proven.mover(), proven.winner())
 }
 
-/// Who moves first, and who wins.
+/// The status, and that it is proved.
+fn status_fields(alloc: Global, word: &str) -> Result<String, AllocError>
+    ensures { IfOk result (λ text. string_bytes text ≡ status_fields word.now) }
+{
+    format!(in alloc; ",\"status\":\"{word}\",\"word\":\"proved\"")
+}
+
+/// Who moves first, that it is proved, and who wins.
 fn winner_fields(alloc: Global, mover: Colour, winner: Colour) -> Result<String, AllocError>
-    ensures { IfOk result
-        (λ text. string_bytes text ≡ winner_fields (letter_text mover) winner) }
+    ensures { IfOk result (λ text. string_bytes text ≡ winner_fields mover winner) }
 {
     let first = colour_letter(mover);
     let won = colour_letter(winner);
     format!(in alloc; ",\"first\":\"{first}\",\"word\":\"proved\",\"winner\":\"{won}\"")
 }
 
-/// The status of a group that these two decide. Of the defence only that it does is needed.
-fn unsettled_fields(
-    alloc: Global,
-    _attack: &ProvenByMove,
-    _defence: &ProvenByMove,
-) -> Result<String, AllocError>
-    requires { IsUnsettled _attack.now _defence.now }
-    ensures { IfOk result
-        (λ text. IsUnsettledFields _attack.now _defence.now (string_bytes text)) }
+/// What first moves decide of the group, or of the side that is asked about.
+fn decided_fields(alloc: Global, decided: &Decided<'_>) -> Result<String, AllocError>
+    ensures { IfOk result (λ text. IsDecidedFields decided.now (string_bytes text)) }
 {
-    format!(in alloc; ",\"status\":\"unsettled\",\"word\":\"proved\"")
-}
-
-/// What the first moves say: of the group if both sides were asked about, or of who wins where this side moves first.
-fn said_by_moves(
-    alloc: Global,
-    defender: Colour,
-    first: Option<Side>,
-    first_moves: &FirstMoves,
-) -> Result<String, AllocError> {
-    match first {
-        None => match first_moves.both() {
-            Some((attack, defence)) => unsettled_fields(alloc, attack, defence),
-            None => Ok(String::new(alloc)),
-        },
-        Some(side) => match first_moves.by(side.colour(defender)) {
-            Some(proven) => winner_by_move(alloc, proven),
-            None => Ok(String::new(alloc)),
-        },
+    match decided {
+        Decided::Unsettled(_) => status_fields(alloc, "unsettled"),
+        Decided::Wins(proven) => winner_by_move(alloc, proven),
     }
 }
 
-/// The object of a group that each side decides by moving first, or where one side was asked about that decides it so.
+/// The object of a group of which this is decided by first moves.
 pub(crate) fn first_moves_object(
     alloc: Global,
     group: &Group,
     stones: &PointSet,
-    first: Option<Side>,
+    decided: &Decided<'_>,
     first_moves: &FirstMoves,
-) -> Result<String, AllocError> {
-    let mut text = begun_at(alloc, group.problem.size(), group.target)?;
-    let said = said_by_moves(alloc, group.defender, first, first_moves)?;
-    text.push_str(said.as_str())?;
-    push_points(&mut text, "stones", group.problem.size(), stones)?;
-    push_first_moves(&mut text, group, first_moves, false)?;
-    text.push_str(",\"questions\":[]}\n")?;
-    Ok(text)
+) -> Result<String, AllocError>
+    ensures { IfOk result (λ text. HasFields group.now.problem.game.size group.now.target
+        (IsDecidedFields decided.now) (string_bytes text)) }
+{
+    let size = group.problem.size();
+    let begun = begun_at(alloc, size, group.target)?;
+    let fields = decided_fields(alloc, decided)?;
+    let mut rest = String::new(alloc);
+    push_points(&mut rest, "stones", size, stones)?;
+    push_first_moves(&mut rest, group, first_moves, false)?;
+    rest.push_str(",\"questions\":[]}\n")?;
+    format!(in alloc; "{begun}{fields}{rest}")
 }
 
 /// Appends the first moves that are proved to win, if there are any; only those for which nothing is supposed if `is_outright`.

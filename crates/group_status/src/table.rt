@@ -40,6 +40,8 @@ pub(crate) struct Table {
     /// The places of the rows on which what was found last stands.
     grounds: Vec<usize>,
     pub(crate) budget: Budget,
+    /// Stones that are proved to be taken, perhaps as long as others stand. A target beside them may live by taking them.
+    pub(crate) lost: PointSet,
     /// Whether each row is reported when it has been asked.
     pub(crate) is_told: bool,
 }
@@ -59,6 +61,7 @@ impl Table {
             asked: Vec::new(alloc),
             rows: Vec::new(alloc),
             grounds: Vec::new(alloc),
+            lost: PointSet::new(),
             budget,
             is_told,
         }
@@ -142,6 +145,25 @@ impl Table {
             }
         }
         true
+    }
+
+    /// Whether one of these stones is in no region that was asked with this side to move first.
+    pub(crate) fn leaves_out(&self, first: Side, stones: &PointSet) -> bool {
+        stones.iter().any(|stone| !self.has_in_region(first, stone))
+    }
+
+    /// Whether the point is in a region that was asked with this side to move first.
+    fn has_in_region(&self, first: Side, point: Point) -> bool {
+        for row in self.rows.as_slice() {
+            if let Some(place) = row.place {
+                if let Some(asked) = self.asked.get(place) {
+                    if row.first == first && asked.problem.region().has(point) {
+                        return true;
+                    }
+                }
+            }
+        }
+        false
     }
 
     /// The place of the row of a question, if it was asked.

@@ -1,2 +1,4 @@
 pub mod Deciding
 pub mod Dying
+pub mod Moving
+pub mod Pairing

@@ -1,3 +1,4 @@
+pub mod After
 pub mod Dead
 pub mod Position
 pub mod Proven

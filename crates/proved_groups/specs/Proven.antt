@@ -53,16 +53,19 @@ LivesBy a m = ∥ IsSafeAs (Some m) (start (problem_by_move a)) ∥₁
 abbrev pub Dies : AcceptedByMove → Type 0
 Dies a = ∥ IsLostByMove (problem_by_move a) (supposed_by_move a) ∥₁
 
+-- The words are for what becomes of them: that they live, by this first move, or that they die.
+abbrev pub SaysBy : List ℕ → List ℕ → AcceptedByMove → Option Place → List ℕ → Type 0
+SaysBy lives dies a first text = ((text ≡ lives) × (m : Place) × (first ≡ Some m) × LivesBy a m) ⊎ ((text ≡ dies) × Dies a)
+
 abbrev pub SaysEnd : AcceptedByMove → Option Place → List ℕ → Type 0
-SaysEnd a first text = ((text ≡ codes "lives") × (m : Place) × (first ≡ Some m) × LivesBy a m) ⊎ ((text ≡ codes "dies") × Dies a)
+SaysEnd a first text = SaysBy (codes "lives") (codes "dies") a first text
+
+abbrev pub SaysStatusAfter : AcceptedByMove → Option Place → List ℕ → Type 0
+SaysStatusAfter a first text = SaysBy (codes "alive") (codes "dead") a first text
 
 -- Who moves first decides.
 abbrev pub SaysWinnerByMove : AcceptedByMove → Colour → Type 0
 SaysWinnerByMove a x = (x ≡ (problem_by_move a).mover) × (((m : Place) × LivesBy a m) ⊎ Dies a)
-
--- The other side takes them by moving first, and their owner saves them.
-abbrev pub IsUnsettled : ProvenByMove → ProvenByMove → Type 0
-IsUnsettled attack defence = Dies attack.claim × ((m : Place) × LivesBy defence.claim m)
 
 -- The stones of the finding are the targets, in the position of q with its past; the point is one of them.
 abbrev pub IsAbout : GameProblem → Proven → Type 0
@@ -76,3 +79,8 @@ IsOfStone q point p = IsTrue (holds_place p.finding.stones point) × IsAbout q p
 
 abbrev pub IsOfStoneByMove : GameProblem → Place → ProvenByMove → Type 0
 IsOfStoneByMove q point p = IsTrue (holds_place p.finding.stones point) × IsAboutByMove q p
+
+-- Both are about the group of one stone in one position.
+abbrev pub AreOfOneStone : ProvenByMove → ProvenByMove → Type 0
+AreOfOneStone attack defence =
+    (q : GameProblem) × (point : Place) × IsOfStoneByMove q point attack × IsOfStoneByMove q point defence

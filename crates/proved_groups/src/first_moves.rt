@@ -1,7 +1,8 @@
 //! What each side's first move does to a group whose fate is not proved as it is.
 
-ghost use Rattle.std.specs.Prelude.{IfOk, IfSome};
-ghost use Rattle.proved_groups.specs.Proven.{IsOfStoneByMove, IsUnsettled};
+ghost use Rattle.std.specs.Prelude.{◌≡◌, ◌⊎◌, IfOk, IfSome, IsTrue, Some};
+ghost use Rattle.go_points.specs.Place.{Place};
+ghost use Rattle.proved_groups.specs.Proven.{problem_by_move, AreOfOneStone, Dies, IsOfStoneByMove, LivesBy};
 
 use crate::asking::proven_by_move;
 use crate::proven::ProvenByMove;
@@ -15,6 +16,33 @@ pub struct FirstMoves {
     defender: Colour,
     attack: Option<ProvenByMove>,
     defence: Option<ProvenByMove>,
+    ghost same: { ∥ IfSome attack (λ a. IfSome defence (AreOfOneStone a)) ∥₁ },
+}
+
+/// The attack by which a group dies, and the defence by which the same group lives: who moves first decides it.
+#[derive(Clone, Copy)]
+pub struct Unsettled<'a> {
+    attack: &'a ProvenByMove,
+    defence: &'a ProvenByMove,
+    ghost dies: { Dies attack.now.claim },
+    ghost lives: { ∥ ((m : Place) × LivesBy defence.now.claim m) ∥₁ },
+    ghost same: { ∥ AreOfOneStone attack.now defence.now ∥₁ },
+}
+
+impl<'a> Unsettled<'a> {
+    /// That the other side takes the group by moving first.
+    pub fn attack(&self) -> &'a ProvenByMove
+        ensures { result ≡ self.now.attack }
+    {
+        self.attack
+    }
+
+    /// That its owner saves it by moving first.
+    pub fn defence(&self) -> &'a ProvenByMove
+        ensures { result ≡ self.now.defence }
+    {
+        self.defence
+    }
 }
 
 impl FirstMoves {
@@ -44,11 +72,19 @@ impl FirstMoves {
     }
 
     /// What is proved by the first move of this side.
-    pub fn by(&self, mover: Colour) -> Option<&ProvenByMove> {
-        if mover == self.defender {
+    pub fn by(&self, mover: Colour) -> Option<&ProvenByMove>
+        ensures kept { IfSome result (λ p. (self.now.attack ≡ Some p.now)
+            ⊎ (self.now.defence ≡ Some p.now)) }
+        ensures mover { IfSome result (λ p. (problem_by_move p.now.claim).mover ≡ mover) }
+    {
+        let kept = if mover == self.defender {
             self.defence.as_ref()
         } else {
             self.attack.as_ref()
+        };
+        match kept {
+            Some(proven) if proven.mover() == mover => Some(proven),
+            _ => None,
         }
     }
 
@@ -61,30 +97,24 @@ impl FirstMoves {
     }
 
     /// The attack and the defence, if each side decides the group by moving first.
-    pub fn both(&self) -> Option<(&ProvenByMove, &ProvenByMove)>
-        ensures { IfSome result (λ both. IsUnsettled both.0.now both.1.now) }
+    pub fn both(&self) -> Option<Unsettled<'_>>
+        ensures { IfSome result (λ both. (self.now.attack ≡ Some both.attack.now)
+            × (self.now.defence ≡ Some both.defence.now)) }
     {
         match (self.attack.as_ref(), self.defence.as_ref()) {
-            (Some(attack), Some(defence)) => deciding(attack, defence),
+            (Some(attack), Some(defence)) if is_taken_and_saved(attack, defence) => {
+                Some(Unsettled { attack, defence })
+            }
             _ => None,
         }
     }
 }
 
-/// The two, if the group dies by the one, and lives by the other.
-fn deciding<'a>(
-    attack: &'a ProvenByMove,
-    defence: &'a ProvenByMove,
-) -> Option<(&'a ProvenByMove, &'a ProvenByMove)>
-    ensures { IfSome result (λ both. IsUnsettled both.0.now both.1.now) }
+/// Whether stones die by the one, and stones live by the other.
+fn is_taken_and_saved(attack: &ProvenByMove, defence: &ProvenByMove) -> bool
+    ensures { IsTrue result → Dies attack.now.claim × ((m : Place) × LivesBy defence.now.claim m) }
 {
-    if attack.is_alive() {
-        return None;
-    }
-    if !defence.is_alive() {
-        return None;
-    }
-    Some((attack, defence))
+    !attack.is_alive() && defence.is_alive()
 }
 
 /// What is proved by the first move of this side, that the group lives or else that it dies, if that side is asked about.

@@ -12,10 +12,10 @@ mod proven;
 mod safe;
 mod together;
 
-pub use asking::{proven_stone, search_of};
+pub use asking::{proven_stone, search_of, taken_stones};
 pub use by_shape::ByShape;
 pub use dead::{Dead, DeadByMove};
-pub use first_moves::FirstMoves;
+pub use first_moves::{FirstMoves, Unsettled};
 pub use move_answer::{AnswerTo, answer_to};
 pub use proven::{Accepted, AcceptedByMove, Proven, ProvenByMove, judged};
 pub use safe::{Safe, SafeByMove};

@@ -1,5 +1,9 @@
 //! How the status of a group is kept that is proved, after a move of the side that would change it.
 
+ghost use Rattle.std.specs.Prelude.{IfOk, IfSome};
+ghost use Rattle.target_game.specs.State.{start};
+ghost use Rattle.proved_groups.specs.After.{IsAfter, IsAnswerTo, IsResult, IsWith};
+
 use crate::asking::{proven_by_move, proven_stone};
 use crate::proven::{Proven, ProvenByMove};
 use go_points::{Colour, Colouring, Point, Turn};
@@ -29,7 +33,9 @@ pub fn answer_to(
     mover: Colour,
     point: Point,
     steps: u64,
-) -> Result<AnswerTo, AllocError> {
+) -> Result<AnswerTo, AllocError>
+    ensures { IfOk result (IsAnswerTo problem.now target mover point) }
+{
     let Some(after) = problem_after(alloc, problem, mover, point)? else {
         return Ok(AnswerTo::Barred);
     };
@@ -51,7 +57,9 @@ fn problem_after(
     problem: &Problem,
     mover: Colour,
     point: Point,
-) -> Result<Option<Problem>, AllocError> {
+) -> Result<Option<Problem>, AllocError>
+    ensures { IfOk result (λ o. IfSome o (IsAfter problem.now mover point)) }
+{
     let mut history = problem.history().to_vec(alloc)?;
     let Some(before) = problem_with(
         problem,
@@ -75,7 +83,9 @@ fn problem_with(
     history: Vec<Colouring>,
     place: usize,
     mover: Colour,
-) -> Option<Problem> {
+) -> Option<Problem>
+    ensures { IfSome result (IsWith problem.now history.items place mover) }
+{
     let targets = *problem.targets();
     let region = all_points(problem.size());
     match Problem::new(history, place, mover, 0, targets, region) {
@@ -89,10 +99,22 @@ fn colouring_after(
     alloc: Global,
     problem: &Problem,
     point: Point,
-) -> Result<Option<Colouring>, AllocError> {
+) -> Result<Option<Colouring>, AllocError>
+    ensures { IfOk result (λ o. IfSome o (IsResult (start problem.now) point)) }
+{
     let state = PlayState::of(alloc, problem)?;
-    if !state.size().holds(point) || !state.is_legal(Turn::At(point)) || !state.is_open(point) {
-        return Ok(None);
+    Ok(result_of(&state, point))
+}
+
+/// The same in a state.
+fn result_of(state: &PlayState, point: Point) -> Option<Colouring>
+    ensures { IfSome result (IsResult state.now.state point) }
+{
+    if !state.size().holds(point) || !state.is_open(point) {
+        return None;
     }
-    Ok(Some(state.result(point)))
+    if !state.is_legal(Turn::At(point)) {
+        return None;
+    }
+    Some(state.result(point))
 }

@@ -4,7 +4,7 @@
 
 ghost use Rattle.std.specs.Prelude.{◌≡◌, false, IfOk, IfSome, IsTrue};
 ghost use Rattle.go_points.specs.Place.{Place};
-ghost use Rattle.proved_groups.specs.Proven.{problem_of, problem_by_move, supposed_of, supposed_by_move, Dies, IsAbout, IsAboutByMove, LivesBy, SaysEnd, SaysStatus, SaysWinner, SaysWinnerByMove};
+ghost use Rattle.proved_groups.specs.Proven.{problem_of, problem_by_move, supposed_of, supposed_by_move, Dies, IsAbout, IsAboutByMove, LivesBy, SaysEnd, SaysStatus, SaysStatusAfter, SaysWinner, SaysWinnerByMove};
 
 use crate::dead::{Dead, DeadByMove, dead_stones, stones_dead_by_move};
 use crate::safe::{Safe, SafeByMove, safe_stones, stones_safe_by_move};
@@ -149,6 +149,16 @@ impl ProvenByMove {
         ensures { SaysWinnerByMove self.now.claim result }
     {
         self.mover()
+    }
+
+    /// The first move, and whether the stones are `alive` or `dead` once it is made. Where they die, that it is this move is not proved.
+    pub fn status(&self) -> (Option<Point>, &'static str)
+        ensures { SaysStatusAfter self.now.claim result.0 result.1.now }
+    {
+        match &self.claim {
+            AcceptedByMove::Alive(safe) => (Some(safe.first()), "alive"),
+            AcceptedByMove::Dead(_) => (self.finding.first, "dead"),
+        }
     }
 
     /// The first move, and whether they are said to live or to die by it: `lives` or `dies`. Where they die, that it is this move is

@@ -1,6 +1,6 @@
 -- The areas that can be eyes are gathered one by one.
 use Rattle.pass_alive.proofs.Common.{◌≡◌, ◌≢◌, ℕ, false, ◌+◌, ◌<◌, ◌≤◌, ◌⊎◌, inl, inr, IsTrue, List, [], ◌∷◌, length, map, get_or, sym, ◌∙◌, ap, subst, Cell, Empty, adjacent, neighbours, cell_at, Place, IsOn, number_of, place_of, same_place, holds_place, with_place, same_place_decides, sets_gain, or_cases, or_left, or_right, adjacent_back, IsWay, Joined, IsChainOf, joined_self, these, IsNear, IsFreePlace, AreSides}
-use Rattle.pass_alive.specs.Private.Areas.{HasSides, HasAround}
+use Rattle.pass_alive.specs.Private.Areas.{HasSides, HasAround, HasStonesAround, HasStonesNear, is_due}
 use Rattle.pass_alive.proofs.Regions.{number_back}
 use Rattle.pass_alive.proofs.Members.{AllBut, AllBeside, but_first, but_item, but_more, but_none, beside_more, beside_all}
 use Rattle.go_turns.proofs.Openings.{place_back}
@@ -143,6 +143,100 @@ module _ (n : ℕ) (points : List Place) where
   all_near left now e h q near =
       but_none (IsAround n now) points left e h.looked (place_of n near.0) near.2 q
       (subst (λ z. IsTrue (adjacent n z q)) (sym (number_back n near.0)) (adjacent_back n q near.0 near.1))
+
+-- stones beside a point are gathered, where they are not due late
+abbrev pub IsDueNear : ℕ → List Place → List Place → List Place → ℕ → Type 0
+IsDueNear n stones late now q = IsTrue (these n stones q) → IsTrue (is_due now late (place_of n q))
+
+pub record StonesSoFar (n : ℕ) (stones late old items : List Place) (i : ℕ) (now : List Place) : Type 0 where
+  pub kept : (x : Place) → IsTrue (holds_place old x) → IsTrue (holds_place now x)
+  pub added : AllBeside n (IsDueNear n stones late now) items i
+  pub most : (x : Place) → IsTrue (holds_place now x) → IsTrue (holds_place old x) ⊎ IsTrue (holds_place stones x)
+
+module _ (n : ℕ) (stones late old items : List Place) where
+  pub stones_first : StonesSoFar n stones late old items 0 old
+  stones_first = record { kept = λ x held. held; added = λ q m. absurd m; most = λ x held. inl held }
+
+  module _ (i : ℕ) (x : Place) (low : i < length items) (is : x ≡ get_or items i x) (on : IsOn n x) (now : List Place) (h : StonesSoFar n stones late old items i now) where
+    pub stones_kept : (IsTrue (holds_place stones x) → IsTrue (is_due now late x)) → StonesSoFar n stones late old items (i + 1) now
+    stones_kept due = record {
+      kept = h.kept;
+      added = beside_more n (IsDueNear n stones late now) items i x low is
+          (λ held. subst (λ z. IsTrue (is_due now late z)) (sym (place_back n x on)) (due (sym (ap (holds_place stones) (place_back n x on)) ∙ held))) h.added;
+      most = h.most;
+    }
+
+    pub stones_more : IsTrue (holds_place stones x) → StonesSoFar n stones late old items (i + 1) (with_place now x)
+    stones_more stone = record {
+      kept = λ y held. had y (h.kept y held);
+      added = beside_more n (IsDueNear n stones late (with_place now x)) items i x low is
+          (λ held. or_left (holds_place (with_place now x) (place_of n (number_of n x))) (holds_place late (place_of n (number_of n x)))
+          (sets_gain now x (place_of n (number_of n x)) ∙ or_left (same_place (place_of n (number_of n x)) x) (holds_place now (place_of n (number_of n x))) ((same_place_decides (place_of n (number_of n x)) x).1 (place_back n x on))))
+          (λ q m held. still (place_of n q) (h.added q m held));
+      most = λ y held. elim (or_cases (same_place y x) (holds_place now y) (sym (sets_gain now x y) ∙ held)) [
+        | inl same ↦ inr (subst (λ z. IsTrue (holds_place stones z)) (sym ((same_place_decides y x).0 same)) stone)
+        | inr before ↦ h.most y before
+      ];
+    }
+      where
+        had : (y : Place) → IsTrue (holds_place now y) → IsTrue (holds_place (with_place now x) y)
+        had y held = sets_gain now x y ∙ or_right (same_place y x) (holds_place now y) held
+
+        still : (y : Place) → IsTrue (is_due now late y) → IsTrue (is_due (with_place now x) late y)
+        still y is_due_now = elim (or_cases (holds_place now y) (holds_place late y) is_due_now) [
+          | inl first ↦ or_left (holds_place (with_place now x) y) (holds_place late y) (had y first)
+          | inr after ↦ or_right (holds_place (with_place now x) y) (holds_place late y) after
+        ]
+
+  pub stones_all : (i p : ℕ) → length items ≤ i → map (number_of n) items ≡ neighbours n p → (now : List Place) → StonesSoFar n stones late old items i now → HasStonesAround n stones late p old now
+  stones_all i p past those now h = record {
+    kept = h.kept;
+    added = beside_all n (IsDueNear n stones late now) items i p past those h.added;
+    most = h.most;
+  }
+
+-- and point by point
+abbrev pub AreDueAround : ℕ → List Place → List Place → List Place → Place → Type 0
+AreDueAround n stones late now s = (q : ℕ) → IsTrue (adjacent n (number_of n s) q) → IsDueNear n stones late now q
+
+pub record StonesGathered (n : ℕ) (stones late points old left now : List Place) : Type 0 where
+  pub kept : (x : Place) → IsTrue (holds_place old x) → IsTrue (holds_place now x)
+  pub looked : AllBut (AreDueAround n stones late now) points left
+  pub most : (x : Place) → IsTrue (holds_place now x) → IsTrue (holds_place old x) ⊎ IsTrue (holds_place stones x)
+
+module _ (n : ℕ) (stones late points old : List Place) where
+  pub near_first : (left : List Place) → left ≡ points → StonesGathered n stones late points old left old
+  near_first left e = record { kept = λ x held. held; looked = but_first (AreDueAround n stones late old) points left e; most = λ x held. inl held }
+
+  pub near_item : (left rest : List Place) (s : Place) → left ≡ s ∷ rest → (now : List Place) → StonesGathered n stones late points old left now → IsTrue (holds_place points s)
+  near_item left rest s e now h = but_item (AreDueAround n stones late now) points left rest s e h.looked
+
+  pub near_more : (left rest : List Place) (s : Place) → left ≡ s ∷ rest → (before now : List Place) → HasStonesAround n stones late (number_of n s) before now
+      → StonesGathered n stones late points old left before → StonesGathered n stones late points old rest now
+  near_more left rest s e before now has h = record {
+    kept = λ x held. has.kept x (h.kept x held);
+    looked = but_more (AreDueAround n stones late now) points left rest s e has.added
+        (record {
+          among = h.looked.among;
+          passed = λ p held. elim (h.looked.passed p held) [ inl still ↦ inl still | inr done ↦ inr (λ q adj is. due_still (place_of n q) (done q adj is)) ];
+        });
+    most = λ x held. elim (has.most x held) [ inl had ↦ h.most x had | inr stone ↦ inr stone ];
+  }
+    where
+      due_still : (y : Place) → IsTrue (is_due before late y) → IsTrue (is_due now late y)
+      due_still y was = elim (or_cases (holds_place before y) (holds_place late y) was) [
+        | inl first ↦ or_left (holds_place now y) (holds_place late y) (has.kept y first)
+        | inr after ↦ or_right (holds_place now y) (holds_place late y) after
+      ]
+
+  pub near_all : (left now : List Place) → left ≡ [] → StonesGathered n stones late points old left now → HasStonesNear n stones late points old now
+  near_all left now e h = record {
+    kept = h.kept;
+    added = λ q near held.
+        but_none (AreDueAround n stones late now) points left e h.looked (place_of n near.0) near.2 q
+        (subst (λ z. IsTrue (adjacent n z q)) (sym (number_back n near.0)) (adjacent_back n q near.0 near.1)) held;
+    most = h.most;
+  }
 
 -- a point beside none of its kind is a chain
 module _ (n : ℕ) (c : List Cell) (x : Place) (x_on : IsOn n x) (alone : (q : ℕ) → IsTrue (adjacent n (number_of n x) q) → cell_at c q ≢ cell_at c (number_of n x)) where

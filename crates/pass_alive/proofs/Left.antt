@@ -1,11 +1,11 @@
 -- The stones that are left when chains without two eyes and without a lasting liberty are taken away.
-use Rattle.pass_alive.proofs.Common.{◌≡◌, ℕ, ◌*◌, ◌+◌, ◌<◌, ◌≤◌, Bool, true, false, Some, None, ◌⊎◌, inl, inr, IsTrue, IsFalse, ◌↔◌, List, [], ◌∷◌, map, length, refl, sym, ◌∙◌, ap, subst, arith, list_all, or_cases, or_left, or_right, suc, with_place, same_place, same_place_decides, sets_gain, Colour, Cell, Stone, same_cell, cell_at, Place, IsOn, number_of, place_of, holds_place, all_at, all_from, same_cell_eq, eq_same_cell, adjacent_on_board, adjacent_back, IsWay, Joined, IsChainOf, joined_self, joined_back, joined_on, joined_holds, area_cell, areas_in, Points, IsBeside, Live, PassAlive, Game, these, number_on, game_of, IsNear, IsEyeArea, MayLive, LastsOutside}
+use Rattle.pass_alive.proofs.Common.{◌≡◌, ℕ, ◌*◌, ◌+◌, ◌<◌, ◌≤◌, Bool, true, false, Some, None, ◌⊎◌, inl, inr, IsTrue, IsFalse, ◌↔◌, List, [], ◌∷◌, map, length, refl, sym, ◌∙◌, ap, subst, arith, list_all, or_cases, or_left, or_right, suc, with_place, same_place, same_place_decides, sets_gain, Colour, Cell, Stone, same_cell, cell_at, Place, IsOn, number_of, place_of, holds_place, all_at, all_from, same_cell_eq, eq_same_cell, adjacent_on_board, adjacent_back, IsWay, Joined, IsChainOf, joined_self, joined_back, joined_on, joined_holds, area_cell, areas_in, Points, IsBeside, Live, PassAlive, Game, these, number_on, game_of, IsNear, IsWith, IsEyeArea, MayLive, LastsOutside}
 use Rattle.std.proofs.Common.{Option, IfSome, IfNone}
 use Rattle.std.proofs.Math.Nat.{mul-le-mul_right, suc-mul}
 use Rattle.go_points.specs.Points.{first_place}
 use Rattle.go_chains.specs.Joined.{HoldsThose}
 use Rattle.pass_alive.specs.Sets.{AreLiving}
-use Rattle.pass_alive.specs.Private.Areas.{IsSafe, IsWithout, IsWithCommon, AreLeft, IsLess, is_due}
+use Rattle.pass_alive.specs.Private.Areas.{IsSafe, IsWithout, HasStonesNear, AreLeft, IsLess, is_due}
 use Rattle.pass_alive.proofs.Regions.{targets_hold}
 use Rattle.pass_alive.proofs.Spaces.{two_eyes, two_areas, near_areas, near_sets, may_live_more, place_on}
 use Rattle.pass_alive.proofs.Taking.{is_false}
@@ -100,6 +100,13 @@ module _ (n : ℕ) (k : Colour) (region : List Place) (c : List Cell) (cells : (
       pub in_chain : IsTrue (holds_place chain x)
       in_chain = sym (ap (holds_place chain) due_back) ∙ (is.joined (number_of n x) due_low).1 (joined_self n c (number_of n x))
 
+      -- all its stones are left
+      pub chain_left : (p : Place) → IsTrue (holds_place chain p) → IsTrue (holds_place stones p)
+      chain_left p held =
+          let back : place_of n (number_of n p) ≡ p = place_back n p (is.on_board p held) in
+          let low : number_of n p < n * n = place_on n (number_of n p) (subst (IsOn n) (sym back) (is.on_board p held)) in
+          sym (ap (holds_place stones) back) ∙ h.whole (number_of n x) (number_of n p) low due_here ((is.joined (number_of n p) low).0 (ap (holds_place chain) back ∙ held))
+
       -- a chain that is not this one has no stone in it
       apart : (q r : ℕ) → q < n * n → r < n * n → Joined n c q r → IsFalse (these n chain q) → IsFalse (these n chain r)
       apart q r q_low r_low j out = is_false (these n chain r) (λ held. cc (out, (is.joined q q_low).1 (joined_on n c (number_of n x) r q ((is.joined r r_low).0 held) (joined_back n c q r j))))
@@ -136,10 +143,10 @@ module _ (n : ℕ) (k : Colour) (region : List Place) (c : List Cell) (cells : (
           go q low held idle false e = h.safe q low held (λ r r_low j. is_false (due (place_of n r)) (λ was. cc (kept (place_of n r) (apart q r low r_low j e) was, idle r r_low j)))
 
       -- it is taken away, and what is due then has all stones that are left two steps from it
-      module _ (dead : MayLive n (map (number_on n) region) c (areas_in k c) (these n stones) (number_of n x) → ⊥) (fewer near far : List Place) (more : Place → Bool) (gone : IsWithout chain stones fewer)
-          (near_all : (q : ℕ) → IsNear n (these n chain) q → IsTrue (these n near q)) (far_all : (q : ℕ) → IsNear n (these n near) q → IsTrue (these n far q))
+      module _ (dead : MayLive n (map (number_on n) region) c (areas_in k c) (these n stones) (number_of n x) → ⊥) (fewer near : List Place) (more : Place → Bool) (gone : IsWithout chain stones fewer)
+          (near_all : (q : ℕ) → IsNear n (these n chain) q → IsTrue (these n near q))
           (from : (p : Place) → IsTrue (more p) → (IsTrue (due p) × IsFalse (holds_place chain p)) ⊎ IsTrue (holds_place fewer p)) (kept : (p : Place) → IsFalse (holds_place chain p) → IsTrue (due p) → IsTrue (more p))
-          (added : (p : Place) → IsTrue (holds_place far p) → IsTrue (holds_place fewer p) → IsTrue (more p)) where
+          (added : (q : ℕ) → IsNear n (these n near) q → IsTrue (these n fewer q) → IsTrue (more (place_of n q))) where
         out_of_chain : (q : ℕ) → IsTrue (these n fewer q) → IsFalse (these n chain q)
         out_of_chain q held = is_false (these n chain q) (λ is_in. cc (gone.gone (place_of n q) is_in, held))
 
@@ -162,8 +169,7 @@ module _ (n : ℕ) (k : Colour) (region : List Place) (c : List Cell) (cells : (
               let r_low : r < n * n = (adjacent_on_board n y r beside.1).1 in
               let r_left : IsTrue (these n fewer r) = stays r (h.whole q r r_low (gone.within (place_of n q) held) beside.2) (apart q r low r_low beside.2 (out_of_chain q held)) in
               let is_near : IsTrue (these n near y) = near_all y (w, adjacent_back n w y lib.1.1, is_in) in
-              let is_far : IsTrue (these n far r) = far_all r (y, adjacent_back n y r beside.1, is_near) in
-              cc (added (place_of n r) is_far r_left, idle r r_low beside.2)));
+              cc (added r (y, adjacent_back n y r beside.1, is_near) r_left, idle r r_low beside.2)));
           beside = eye.beside;
         }
 
@@ -200,19 +206,38 @@ module _ (n : ℕ) (k : Colour) (region : List Place) (c : List Cell) (cells : (
           ];
         }
 
--- what is left to do becomes less
-weigh : (x y b u v : ℕ) → x < y → u < b → x * b + u < y * b + v
-weigh x y b u v low few =
+-- what is left to do becomes less: first the stones, then those that are due, then those that are due late
+weigh : (x y b u : ℕ) → x < y → u < b → x * b + u < y * b
+weigh x y b u low few =
     let step : suc x * b ≤ y * b = mul-le-mul_right b (omega (arith, low)) in
     let same : suc x * b ≡ x * b + b = suc-mul x b in
     omega (arith, step, same, few)
 
 pub less_left : (stones due late new_stones new_due new_late : List Place) (most : ℕ) → length new_due ≤ most → length new_late ≤ most → IsLess stones due late new_stones new_due new_late
-    → length new_stones * (3 * most + 1) + (2 * length new_due + length new_late) < length stones * (3 * most + 1) + (2 * length due + length late)
-less_left stones due late new_stones new_due new_late most few few_late (inl fewer) = weigh (length new_stones) (length stones) (3 * most + 1) (2 * length new_due + length new_late) (2 * length due + length late) fewer (omega (arith, few, few_late))
-less_left stones due late new_stones new_due new_late most few few_late (inr same) =
-    let e : length new_stones * (3 * most + 1) ≡ length stones * (3 * most + 1) = ap (λ (s : List Place). length s * (3 * most + 1)) same.0 in
-    omega (arith, e, same.1)
+    → length new_stones * ((most + 1) * (most + 1)) + (length new_due * (most + 1) + length new_late)
+    < length stones * ((most + 1) * (most + 1)) + (length due * (most + 1) + length late)
+less_left stones due late new_stones new_due new_late most few few_late (inl fewer) =
+    let below : length new_due * (most + 1) + length new_late < (most + 1) * (most + 1) = weigh (length new_due) (most + 1) (most + 1) (length new_late) (omega (arith, few)) (omega (arith, few_late)) in
+    let all = weigh (length new_stones) (length stones) ((most + 1) * (most + 1)) (length new_due * (most + 1) + length new_late) fewer below in
+    plus_more _ (length stones * ((most + 1) * (most + 1))) (length due * (most + 1) + length late) all
+  where
+    plus_more : (x y z : ℕ) → x < y → x < y + z
+    plus_more x y z low = omega (arith, low)
+less_left stones due late new_stones new_due new_late most few few_late (inr (same, less)) =
+    plus_same _ _ _ _ (ap (λ (s : List Place). length s * ((most + 1) * (most + 1))) same) (rest less)
+  where
+    plus_same : (x y u v : ℕ) → x ≡ y → u < v → x + u < y + v
+    plus_same x y u v e low = omega (arith, e, low)
+
+    plus_less : (x y u v : ℕ) → x < y → x < y + v
+    plus_less x y u v low = omega (arith, low)
+
+    plus_both : (x y u v : ℕ) → x ≤ y → u < v → x + u < y + v
+    plus_both x y u v most low = omega (arith, most, low)
+
+    rest : ((length new_due < length due) ⊎ ((length new_due ≤ length due) × (length new_late < length late))) → length new_due * (most + 1) + length new_late < length due * (most + 1) + length late
+    rest (inl fewer) = plus_less _ _ 0 _ (weigh (length new_due) (length due) (most + 1) (length new_late) fewer (omega (arith, few_late)))
+    rest (inr (no_more, fewer)) = plus_both _ _ _ _ (mul-le-mul_right (most + 1) no_more) fewer
 
 -- the next that is due
 pub late_some : (due late : List Place) (o : Option Place) → o ≡ first_place late → IfSome o (λ p. IsTrue (is_due due late p))
@@ -250,13 +275,13 @@ module _ (chain due late less_due less_late : List Place) (without : IsWithout c
   less_due_left stones x is_in is = inr (
     refl,
     elim (or_cases (holds_place due x) (holds_place late x) is) [
-      | inl first ↦ omega (arith, without.fewer x is_in first, without_late.shorter)
-      | inr after ↦ omega (arith, without_late.fewer x is_in after, without.shorter)
+      | inl first ↦ inl (without.fewer x is_in first)
+      | inr after ↦ inr (without.shorter, without_late.fewer x is_in after)
     ],
   )
 
   -- and with what has come to be due
-  module _ (fewer far more : List Place) (with : IsWithCommon fewer far less_due more) where
+  module _ (n : ℕ) (fewer near more : List Place) (with : HasStonesNear n fewer less_late near less_due more) where
     pub more_from : (p : Place) → IsTrue (is_due more less_late p) → (IsTrue (is_due due late p) × IsFalse (holds_place chain p)) ⊎ IsTrue (holds_place fewer p)
     more_from p is = elim (or_cases (holds_place more p) (holds_place less_late p) is) [
       | inl first ↦ elim (with.most p first) [
@@ -272,33 +297,28 @@ module _ (chain due late less_due less_late : List Place) (without : IsWithout c
       | inr after ↦ or_right (holds_place more p) (holds_place less_late p) after
     ]
 
-    pub more_added : (p : Place) → IsTrue (holds_place far p) → IsTrue (holds_place fewer p) → IsTrue (is_due more less_late p)
-    more_added p is_far left = or_left (holds_place more p) (holds_place less_late p) (with.added p is_far left)
-
--- a chain that is put off: one of its points is due late in place of all
-module _ (chain due late less_due more_late : List Place) (x : Place) (without : IsWithout chain due less_due) (is : more_late ≡ with_place late x) where
-  pub late_here : IsTrue (is_due less_due more_late x)
-  late_here = or_right (holds_place less_due x) (holds_place more_late x) (ap (λ s. holds_place s x) is ∙ with_held late x)
+-- a chain that is put off
+module _ (chain due late less_due more_late : List Place) (without : IsWithout chain due less_due) (with : IsWith chain late more_late) where
+  pub late_here : (x : Place) → IsTrue (holds_place chain x) → IsTrue (is_due less_due more_late x)
+  late_here x is_in = or_right (holds_place less_due x) (holds_place more_late x) (with.added x is_in)
 
   pub late_kept : (p : Place) → IsFalse (holds_place chain p) → IsTrue (is_due due late p) → IsTrue (is_due less_due more_late p)
   late_kept p out h = elim (or_cases (holds_place due p) (holds_place late p) h) [
     | inl first ↦ or_left (holds_place less_due p) (holds_place more_late p) (without.kept p out first)
-    | inr after ↦ or_right (holds_place less_due p) (holds_place more_late p) (ap (λ s. holds_place s p) is ∙ sets_gain late x p ∙ or_right (same_place p x) (holds_place late p) after)
+    | inr after ↦ or_right (holds_place less_due p) (holds_place more_late p) (with.kept p after)
   ]
 
-  pub late_among : (F : Place → Type 0) → ((p : Place) → IsTrue (is_due due late p) → F p) → IsTrue (holds_place due x) → (p : Place) → IsTrue (is_due less_due more_late p) → F p
-  late_among F all first p h = elim (or_cases (holds_place less_due p) (holds_place more_late p) h) [
+  pub late_among : (F : Place → Type 0) → ((p : Place) → IsTrue (is_due due late p) → F p) → ((p : Place) → IsTrue (holds_place chain p) → F p) → (p : Place) → IsTrue (is_due less_due more_late p) → F p
+  late_among F all of_chain p h = elim (or_cases (holds_place less_due p) (holds_place more_late p) h) [
     | inl had ↦ all p (or_left (holds_place due p) (holds_place late p) (without.within p had))
-    | inr after ↦ elim (or_cases (same_place p x) (holds_place late p) (sym (sets_gain late x p) ∙ sym (ap (λ s. holds_place s p) is) ∙ after)) [
-      | inl same ↦ subst F (sym ((same_place_decides p x).0 same)) (all x (or_left (holds_place due x) (holds_place late x) first))
-      | inr had ↦ all p (or_right (holds_place due p) (holds_place late p) had)
+    | inr after ↦ elim (with.most p after) [
+      | inl had ↦ all p (or_right (holds_place due p) (holds_place late p) had)
+      | inr is_in ↦ of_chain p is_in
     ]
   ]
 
-  pub less_put_off : (stones : List Place) → IsTrue (holds_place chain x) → IsTrue (holds_place due x) → IsLess stones due late stones less_due more_late
-  less_put_off stones is_in first =
-      let longer : length more_late ≤ suc (length late) = subst (λ s. length s ≤ suc (length late)) (sym is) (with_most late x) in
-      inr (refl, omega (arith, without.fewer x is_in first, longer))
+  pub less_put_off : (stones : List Place) (x : Place) → IsTrue (holds_place chain x) → IsTrue (holds_place due x) → IsLess stones due late stones less_due more_late
+  less_put_off stones x is_in first = inr (refl, inl (without.fewer x is_in first))
 
 -- so the targets live by their shape exactly if they are in the set
 pub pass_alive_by : (n : ℕ) (k : Colour) (targets region : List Place) (c : List Cell) (s : List Place) → AreLiving n k region c s → (b : Bool) → b ≡ list_all (holds_place s) targets → IsTrue b ↔ PassAlive (game_of n targets k region) c

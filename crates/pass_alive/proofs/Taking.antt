@@ -1,7 +1,7 @@
 -- Points are taken out of a set, or put in, one by one.
 use Rattle.pass_alive.proofs.Common.{◌≡◌, ◌<◌, ◌≤◌, Bool, true, false, cond, not, ◌||◌, ◌⊎◌, inl, inr, IsTrue, IsFalse, List, [], ◌∷◌, length, refl, sym, ◌∙◌, ap, subst, arith, Place, same_place, holds_place, with_place, without_place, same_place_decides, sets_gain, sets_lose, and_left, and_right, and_both, or_cases, or_left, or_right, IsWith}
-use Rattle.pass_alive.specs.Private.Areas.{IsWithout, IsWithCommon}
-use Rattle.pass_alive.proofs.Members.{AllBut, but_first, but_more, but_none, left_first, left_later, left_either}
+use Rattle.pass_alive.specs.Private.Areas.{IsWithout}
+use Rattle.pass_alive.proofs.Members.{left_first, left_later, left_either}
 
 -- a set that loses a place that it held is smaller
 without_fewer : (ps : List Place) (p : Place) → length (without_place ps p) ≤ length ps
@@ -153,45 +153,3 @@ module _ (other old : List Place) where
     added = λ p is. elim (h.added p is) [ inl still ↦ absurd (cc (still, e)) | inr there ↦ there ];
     most = h.most;
   }
-
--- those that two other sets have are put in, one by one
-module _ (one other old : List Place) where
-  abbrev pub IsPut : List Place → Place → Type 0
-  IsPut now p = IsTrue (holds_place one p) → IsTrue (holds_place now p)
-
-  pub record CommonSoFar (now left : List Place) : Type 0 where
-    pub kept : (p : Place) → IsTrue (holds_place old p) → IsTrue (holds_place now p)
-    pub added : AllBut (IsPut now) other left
-    pub most : (p : Place) → IsTrue (holds_place now p) → IsTrue (holds_place old p) ⊎ IsTrue (holds_place one p)
-
-  pub common_first : (left : List Place) → left ≡ other → CommonSoFar old left
-  common_first left e = record { kept = λ p held. held; added = but_first (IsPut old) other left e; most = λ p held. inl held }
-
-  module _ (now left rest : List Place) (x : Place) (e : left ≡ x ∷ rest) (h : CommonSoFar now left) where
-    pub common_kept : IsFalse (holds_place one x) → CommonSoFar now rest
-    common_kept not_one = record {
-      kept = h.kept;
-      added = but_more (IsPut now) other left rest x e (λ is_one. absurd (cc (is_one, not_one))) h.added;
-      most = h.most;
-    }
-
-    pub common_more : IsTrue (holds_place one x) → CommonSoFar (with_place now x) rest
-    common_more is_one = record {
-      kept = λ p held. had p (h.kept p held);
-      added = but_more (IsPut (with_place now x)) other left rest x e
-          (λ _. sets_gain now x x ∙ or_left (same_place x x) (holds_place now x) ((same_place_decides x x).1 refl))
-          (record {
-            among = h.added.among;
-            passed = λ p held. elim (h.added.passed p held) [ inl still ↦ inl still | inr done ↦ inr (λ is. had p (done is)) ];
-          });
-      most = λ p held. elim (or_cases (same_place p x) (holds_place now p) (sym (sets_gain now x p) ∙ held)) [
-        | inl same ↦ inr (subst (λ z. IsTrue (holds_place one z)) (sym ((same_place_decides p x).0 same)) is_one)
-        | inr before ↦ h.most p before
-      ];
-    }
-      where
-        had : (p : Place) → IsTrue (holds_place now p) → IsTrue (holds_place (with_place now x) p)
-        had p held = sets_gain now x p ∙ or_right (same_place p x) (holds_place now p) held
-
-  pub common_all : (now left : List Place) → left ≡ [] → CommonSoFar now left → IsWithCommon one other old now
-  common_all now left e h = record { kept = h.kept; added = but_none (IsPut now) other left e h.added; most = h.most }

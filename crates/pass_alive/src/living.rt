@@ -10,11 +10,11 @@ ghost use Rattle.pass_alive.specs.Life.{PassAlive};
 ghost use Rattle.pass_alive.specs.Sets.{these, number_on, game_of, AreLiving};
 ghost use Rattle.pass_alive.specs.Private.Areas.{areas_in, MayLive, IsSafe, AreLeft, IsLess, is_due};
 
-use crate::around::all_around;
+use crate::around::{add_stones_near, all_around};
 use crate::chains::chain_at;
 use crate::eyes::has_two_eyes;
 use crate::lasting::{doubtful_stones, is_lasting};
-use crate::sets::{are_members, put_in_common, take_out};
+use crate::sets::{are_members, put_in, take_out};
 use go_chains::ChainBoard;
 use go_points::{Colour, MAX_POINTS, Point, PointSet};
 
@@ -81,7 +81,7 @@ fn judge(
     };
     if due.has(point) && chain.len() > FEW_STONES {
         take_out(due, &chain);
-        late.insert(point);
+        put_in(late, &chain);
         return;
     }
     take_out(due, &chain);
@@ -90,7 +90,7 @@ fn judge(
         return;
     }
     take_out(stones, &chain);
-    put_in_common(due, stones, &all_around(board, &all_around(board, &chain)));
+    add_stones_near(board, due, stones, late, &all_around(board, &chain));
 }
 
 /// The stones of the colour.

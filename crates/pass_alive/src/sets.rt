@@ -5,7 +5,7 @@ ghost use Rattle.std.specs.List.{list_all};
 ghost use Rattle.go_points.specs.Place.{IsOn, number_of};
 ghost use Rattle.go_points.specs.Points.{holds_place};
 ghost use Rattle.pass_alive.specs.Sets.{these, IsNear, IsWith};
-ghost use Rattle.pass_alive.specs.Private.Areas.{IsWithout, IsWithCommon};
+ghost use Rattle.pass_alive.specs.Private.Areas.{IsWithout};
 
 use go_points::{Point, PointSet, Size};
 
@@ -50,16 +50,5 @@ pub fn put_in(set: &mut PointSet, other: &PointSet)
 {
     for point in other.iter() {
         set.insert(point);
-    }
-}
-
-/// Puts the points that both other sets have into the first.
-pub(crate) fn put_in_common(set: &mut PointSet, one: &PointSet, other: &PointSet)
-    ensures { IsWithCommon one.now other.now set.old set.new }
-{
-    for point in other.iter() {
-        if one.has(point) {
-            set.insert(point);
-        }
     }
 }

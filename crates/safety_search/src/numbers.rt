@@ -33,7 +33,7 @@ impl Numbers {
     }
 
     /// What is expected of a state that was not searched: the owner is so many points from rest, and the other side so many liberties from
-    /// taking something. Squares of liberties make the search go on where it has begun to take them, which needs a third fewer steps.
+    /// taking something. Squares of liberties make the search go on where it has begun to take them, which halves the steps.
     pub(crate) fn expected(far: u32, liberties: u32) -> Numbers {
         let most = liberties.min(MAX_LIBERTIES).max(1);
         Numbers {

@@ -115,12 +115,9 @@ impl Parts {
                 if !wants_one {
                     far = far.saturating_add(second);
                 }
-                let own = part
-                    .near
-                    .and(empty)
-                    .len()
-                    .saturating_add(2u32.saturating_sub(wanted));
-                liberties = liberties.min(own);
+                // It falls without a liberty, any other with its last.
+                let spare = if wants_one { 1 } else { 0 };
+                liberties = liberties.min(part.near.and(empty).len().saturating_add(spare));
             }
         }
         Distance {

@@ -192,7 +192,7 @@ impl Search {
         }
     }
 
-    /// The same with the owner to move, where stones are to be kept.
+    /// The first numbers of a state with the owner to move, where stones are to be kept.
     pub(crate) fn owners_numbers(&mut self, state: State) -> Numbers {
         let distance = self.scratch.distance(&self.game, state);
         Numbers::expected(distance.far, distance.liberties)

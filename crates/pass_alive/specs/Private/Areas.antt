@@ -83,10 +83,11 @@ pub record AreLeft (n : ℕ) (k : Colour) (region : List Place) (c : List Cell) 
   pub safe : (q : ℕ) → q < n * n → IsTrue (these n stones q) → ((r : ℕ) → r < n * n → Joined n c q r → IsFalse (due (place_of n r)))
       → IsSafe n (map (number_on n) region) c (areas_in k c) (these n stones) q
 
--- Fewer stones are left, or as many, of which fewer are due or more are put off.
+-- Fewer stones are left, or the same, of which fewer are due, or as many at most, and fewer late.
 abbrev pub IsLess : List Place → List Place → List Place → List Place → List Place → List Place → Type 0
 IsLess stones due late new_stones new_due new_late =
-    (length new_stones < length stones) ⊎ ((new_stones ≡ stones) × (2 * length new_due + length new_late < 2 * length due + length late))
+    (length new_stones < length stones)
+    ⊎ ((new_stones ≡ stones) × ((length new_due < length due) ⊎ ((length new_due ≤ length due) × (length new_late < length late))))
 
 -- The set without another set of points.
 pub record IsWithout (other old new : List Place) : Type 0 where
@@ -96,11 +97,17 @@ pub record IsWithout (other old new : List Place) : Type 0 where
   pub shorter : length new ≤ length old
   pub fewer : (p : Place) → IsTrue (holds_place other p) → IsTrue (holds_place old p) → length new < length old
 
--- The set with what two other sets have in common.
-pub record IsWithCommon (one other old new : List Place) : Type 0 where
-  pub kept : (p : Place) → IsTrue (holds_place old p) → IsTrue (holds_place new p)
-  pub added : (p : Place) → IsTrue (holds_place other p) → IsTrue (holds_place one p) → IsTrue (holds_place new p)
-  pub most : (p : Place) → IsTrue (holds_place new p) → IsTrue (holds_place old p) ⊎ IsTrue (holds_place one p)
+-- The set with those of these stones that are adjacent to the point p, but for what is in the set late; and the same of all points of
+-- a set.
+pub record HasStonesAround (n : ℕ) (stones late : List Place) (p : ℕ) (old new : List Place) : Type 0 where
+  pub kept : (x : Place) → IsTrue (holds_place old x) → IsTrue (holds_place new x)
+  pub added : (q : ℕ) → IsTrue (adjacent n p q) → IsTrue (these n stones q) → IsTrue (is_due new late (place_of n q))
+  pub most : (x : Place) → IsTrue (holds_place new x) → IsTrue (holds_place old x) ⊎ IsTrue (holds_place stones x)
+
+pub record HasStonesNear (n : ℕ) (stones late points old new : List Place) : Type 0 where
+  pub kept : (x : Place) → IsTrue (holds_place old x) → IsTrue (holds_place new x)
+  pub added : (q : ℕ) → IsNear n (these n points) q → IsTrue (these n stones q) → IsTrue (is_due new late (place_of n q))
+  pub most : (x : Place) → IsTrue (holds_place new x) → IsTrue (holds_place old x) ⊎ IsTrue (holds_place stones x)
 
 -- The set with the points that are adjacent to the point p, and some others of the board at most.
 pub record HasAround (n p : ℕ) (old new : List Place) : Type 0 where

@@ -1,7 +1,7 @@
 use Rattle.pass_alive.proofs.Common.{IsTrue, inl, sym, ◌∙◌, side_of, holds_place}
 use Rattle.pass_alive.specs.Private.Areas.{is_due}
 use Rattle.pass_alive.proofs.Spreading.{in_areas}
-use Rattle.pass_alive.proofs.Left.{due_on, in_chain, left_late, left_safe, left_taken, due_within, due_kept, less_due_left, more_from, more_kept, more_added, late_here, late_kept, late_among, less_put_off}
+use Rattle.pass_alive.proofs.Left.{due_on, in_chain, left_late, left_safe, left_taken, due_within, due_kept, less_due_left, chain_left, more_from, more_kept, late_here, late_kept, late_among, less_put_off}
 use Rattle.pass_alive.proofs.living.judge.Goals as goal
 
 pub chain_at-requires : goal.chain_at-requires
@@ -12,15 +12,20 @@ chain_at-requires c =
 pub returns-then-len-gt-FEW_STONES-clause-so_far : goal.returns-then-len-gt-FEW_STONES-clause-so_far
 returns-then-len-gt-FEW_STONES-clause-so_far c =
     let cells = c.args.board.now in
+    let n = side_of cells in
+    let k = c.args.colour in
     let stones = c.args.stones.now in
     let due = c.args.due.now in
     let late = c.args.late.now in
     let x = c.args.point in
     let chain = c.in-Some.chain in
-    let first : IsTrue (holds_place due x) = sym c.has.ensures ∙ c.if-has.true in
-    left_late (side_of cells) c.args.colour c.args.region.now cells (in_areas c.args.colour cells) stones (is_due due late) c.requires.so_far x c.requires.due chain c.in-Some.ensures.some (is_due c.take_out.new.set c.insert.new.self)
-    (late_among chain due late c.take_out.new.set c.insert.new.self x c.take_out.ensures c.insert.ensures (λ p. IsTrue (holds_place stones p)) c.requires.so_far.among first)
-    (late_kept chain due late c.take_out.new.set c.insert.new.self x c.take_out.ensures c.insert.ensures) (late_here chain due late c.take_out.new.set c.insert.new.self x c.take_out.ensures c.insert.ensures)
+    let of = c.in-Some.ensures.some in
+    let is_in = in_chain n k c.args.region.now cells (in_areas k cells) stones (is_due due late) c.requires.so_far x c.requires.due chain of in
+    left_late n k c.args.region.now cells (in_areas k cells) stones (is_due due late) c.requires.so_far x c.requires.due chain of (is_due c.take_out.new.set c.put_in.new.set)
+    (late_among chain due late c.take_out.new.set c.put_in.new.set c.take_out.ensures c.put_in.ensures (λ p. IsTrue (holds_place stones p)) c.requires.so_far.among
+    (chain_left n k c.args.region.now cells (in_areas k cells) stones (is_due due late) c.requires.so_far x c.requires.due chain of))
+    (late_kept chain due late c.take_out.new.set c.put_in.new.set c.take_out.ensures c.put_in.ensures)
+    (late_here chain due late c.take_out.new.set c.put_in.new.set c.take_out.ensures c.put_in.ensures x is_in)
 
 pub returns-then-len-gt-FEW_STONES-clause-less : goal.returns-then-len-gt-FEW_STONES-clause-less
 returns-then-len-gt-FEW_STONES-clause-less c =
@@ -31,7 +36,7 @@ returns-then-len-gt-FEW_STONES-clause-less c =
     let x = c.args.point in
     let chain = c.in-Some.chain in
     let is_in = in_chain (side_of cells) c.args.colour c.args.region.now cells (in_areas c.args.colour cells) stones (is_due due late) c.requires.so_far x c.requires.due chain c.in-Some.ensures.some in
-    less_put_off chain due late c.take_out.new.set c.insert.new.self x c.take_out.ensures c.insert.ensures stones is_in (sym c.has.ensures ∙ c.if-has.true)
+    less_put_off chain due late c.take_out.new.set c.put_in.new.set c.take_out.ensures c.put_in.ensures stones x is_in (sym c.has.ensures ∙ c.if-has.true)
 
 pub returns-then-is_safe-clause-so_far : goal.returns-then-is_safe-clause-so_far
 returns-then-is_safe-clause-so_far c =
@@ -68,13 +73,12 @@ returns-clause-so_far c =
     let less_late = c.take_out-3.new.set in
     let fewer = c.take_out-4.new.set in
     let near = c.all_around.result in
-    let far = c.all_around-2.result in
-    let more = c.put_in_common.new.set in
+    let more = c.add_stones_near.new.set in
     left_taken (side_of cells) c.args.colour c.args.region.now cells (in_areas c.args.colour cells) stones (is_due due late) c.requires.so_far x c.requires.due chain c.in-Some.ensures.some
-    (λ may. cc (c.is_safe.ensures.complete may, c.if-is_safe.false)) fewer near far (is_due more less_late) c.take_out-4.ensures c.all_around.ensures.all c.all_around-2.ensures.all
-    (more_from chain due late less_due less_late c.take_out-2.ensures c.take_out-3.ensures fewer far more c.put_in_common.ensures)
-    (more_kept chain due late less_due less_late c.take_out-2.ensures c.take_out-3.ensures fewer far more c.put_in_common.ensures)
-    (more_added chain due late less_due less_late c.take_out-2.ensures c.take_out-3.ensures fewer far more c.put_in_common.ensures)
+    (λ may. cc (c.is_safe.ensures.complete may, c.if-is_safe.false)) fewer near (is_due more less_late) c.take_out-4.ensures c.all_around.ensures.all
+    (more_from chain due late less_due less_late c.take_out-2.ensures c.take_out-3.ensures (side_of cells) fewer near more c.add_stones_near.ensures)
+    (more_kept chain due late less_due less_late c.take_out-2.ensures c.take_out-3.ensures (side_of cells) fewer near more c.add_stones_near.ensures)
+    c.add_stones_near.ensures.added
 
 pub returns-clause-less : goal.returns-clause-less
 returns-clause-less c =

@@ -6,4 +6,4 @@ abbrev pub invariant-loop-point : goal.invariant-loop-point
 invariant-loop-point l = AreLeft (side_of l.board) l.fn.colour l.region l.board l.stones (is_due l.due l.late)
 
 abbrev pub decreases-loop-point : goal.decreases-loop-point
-decreases-loop-point l = length l.stones * (3 * MAX_POINTS + 1) + (2 * length l.due + length l.late)
+decreases-loop-point l = length l.stones * ((MAX_POINTS + 1) * (MAX_POINTS + 1)) + (length l.due * (MAX_POINTS + 1) + length l.late)

@@ -1,2 +1,4 @@
 pub mod Winners
 pub mod Stones
+mod Games
+mod Readings

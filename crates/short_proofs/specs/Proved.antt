@@ -2,6 +2,7 @@
 use Rattle.target_game.specs.State.{GameProblem, GameState, start}
 use Rattle.target_game.specs.Wins.{Wins}
 use Rattle.short_proofs.specs.Says.{HasVerdict, IsAccepted, IsSafeOrDead}
+use Rattle.short_proofs.specs.Sound.{IsReading}
 use Rattle.short_proofs.specs.declared.proof.Proved as code
 use Rattle.short_proofs.specs.declared.proof.Proved.TheVariants as answers
 use Rattle.short_proofs.specs.declared.whole.Found as whole
@@ -14,9 +15,9 @@ abbrev pub HasWinner : GameProblem → code.Proved → Type 0
 HasWinner q (answers.Wins winner turn text certificate) = IsAccepted q text.items winner × Wins winner (start q)
 HasWinner q (answers.Unknown cause steps) = Unit {0}
 
--- Who is named as the winner in a record for readers wins, and the record names that side.
+-- Who is named as the winner in a record for readers wins, and the record names that side. Its nodes say what is so.
 abbrev pub HasNamedWinner : GameState → records.Reading → Type 0
-HasNamedWinner s (shown.Wins winner turns tree) = Wins winner s × HasVerdict winner tree
+HasNamedWinner s (shown.Wins winner turns tree) = Wins winner s × HasVerdict winner tree × IsReading winner s tree
 HasNamedWinner s (shown.TooLarge winner turn) = Wins winner s
 HasNamedWinner s (shown.Unknown cause steps) = Unit {0}
 

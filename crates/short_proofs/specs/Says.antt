@@ -28,6 +28,7 @@ use Rattle.tool_parts.specs.Written.{bytes_of, end_of}
 use Rattle.tool_parts.specs.declared.output.Output.{Output}
 use Rattle.tool_parts.specs.declared.output.Output.TheVariants.{Record}
 use Rattle.run_parts.specs.declared.status.Status.TheVariants.{Answered, Unanswered, Refused}
+use Rattle.short_proofs.specs.Sound.{IsReading}
 use Rattle.short_proofs.specs.declared.words.Request.{Request}
 use Rattle.short_proofs.specs.declared.words.Request.TheVariants as asks
 
@@ -108,11 +109,12 @@ abbrev pub IsProof : Bool → GameProblem → List ℕ → Type 0
 IsProof false q text = (x : Colour) × (claim : List ℕ) × IsRecordWith q claim text × IsAccepted q claim x × Wins x (start q)
 IsProof true q text = (claim : List ℕ) × IsRecordWith q claim text × IsSafeOrDead q
 
--- What is said is true: by `check`, of a short claim or of one by answers; by the record that `tree` writes, which names who wins; and
--- by the claim that `prove` writes.
+-- What is said is true: by `check`, of a short claim or of one by answers; by the record that `tree` writes, which names who wins and
+-- whose nodes say what is so; and by the claim that `prove` writes.
 abbrev pub Says : Request → GameProblem → Output → Type 0
 Says asks.Check q o = SaysVerdict q o
 Says (asks.Tree steps) q o = end_of o ≡ Answered → (x : Colour) × (tree : GameTree) × (o ≡ Record tree) × HasVerdict x tree × Wins x (start q)
+    × IsReading x (start q) tree
 Says (asks.Prove steps whole) q o = end_of o ≡ Answered → IsProof whole q (bytes_of o)
 
 -- What is said for a record: it is refused, or it has a problem, of which what is said is true.

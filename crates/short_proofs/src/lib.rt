@@ -12,6 +12,7 @@ mod proof;
 mod reading;
 mod reading_record;
 mod shown;
+mod soundness;
 mod standing;
 mod walk;
 mod whole;

@@ -9,6 +9,7 @@ ghost use Rattle.short_proofs.specs.Says.{HasVerdict};
 use crate::proof::{Proved, judged, prove};
 use crate::reading_record::record_of;
 use crate::shown::{Note, Shown};
+use crate::soundness::is_record_sound;
 use crate::walk::is_shown;
 use go_points::{Colour, Turn};
 use pn_search::{Audience, Budget, Cause};
@@ -109,13 +110,34 @@ fn shown(
 {
     let same = winner;
     match record_within(alloc, problem, same, certificate, most)? {
-        Some(found) => Ok(Reading::Wins {
-            winner,
-            turns: found.1,
-            tree: found.0,
-        }),
+        Some(found) => of_record(alloc, problem, winner, found.1, found.0),
         None => Ok(Reading::TooLarge { winner, turn }),
     }
+}
+
+/// The record, which counts as so many turns. Where a node says what is not so, nothing is known.
+fn of_record(
+    alloc: Global,
+    problem: &Problem,
+    winner: Colour,
+    turns: usize,
+    tree: Tree,
+) -> Result<Reading, AllocError>
+    requires wins { Wins winner (start problem.now) }
+    requires names { HasVerdict winner tree }
+    ensures { IfOk result (HasNamedWinner (start problem.now)) }
+{
+    if is_record_sound(alloc, problem, winner, &tree)? {
+        return Ok(Reading::Wins {
+            winner,
+            turns,
+            tree,
+        });
+    }
+    Ok(Reading::Unknown {
+        cause: Cause::NotConfirmed,
+        steps: 0,
+    })
 }
 
 /// The record of the certificate, and how many turns it counts as. `None` if these are more than `most`.

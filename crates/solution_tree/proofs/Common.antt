@@ -37,7 +37,8 @@ pub use Rattle.solution_tree.specs.Answer.{replies_of}
 unfoldable pub use Rattle.solution_tree.specs.Answer.{answer_of}
 pub use Rattle.solution_tree.specs.Audit.{faults_below, faults_of, first_line, missing, rest_fault, Fault, Why, at_or, audit, has_children, has_several, reply_missing, reply_twice, turns_in, with_turn, after_turn, ask, is_new, not_won, reply_fault, several_answers, then_all, turn_fault, unless_fault}
 pub use Rattle.solution_tree.specs.Below.{nodes_of, node_then, Nodes, count_nodes, no_node, carried, sequence, nodes_below, nodes_in}
-pub use Rattle.solution_tree.specs.Private.Asked.{follows, Tells, IsFound, Leads}
+pub use Rattle.solution_tree.specs.Private.Asked.{Tells, IsFound}
+pub use Rattle.solution_tree.specs.Questions.{follows, Leads}
 pub use Rattle.solution_tree.specs.Private.Opened.{lemma_count, uses_below, tree_at, all_below, branches_at, expanded, lemma_answers, AreOpen, CanGoOn, CanOpen, Goes, closed, due, later_of, replies_then, whole}
 pub use Rattle.solution_tree.specs.Private.Written.{is_single}
 pub use Rattle.solution_tree.specs.declared.answer.Answer.{Answer}

@@ -4,7 +4,7 @@ use Rattle.std.proofs.Common.{◌⊎◌}
 use Rattle.solution_tree.specs.declared.fault.AuditWhy.{AuditWhy}
 use Rattle.solution_tree.specs.declared.fault.AuditFault.{AuditFault}
 use Rattle.solution_tree.specs.Faults.{IsFault}
-use Rattle.solution_tree.specs.Private.Asked.{IsWhy}
+use Rattle.solution_tree.specs.Questions.{IsWhy}
 
 pub fault_same : (n m : ℕ) (r q : Result Colour Fault) (e : AuditFault) → n ≡ m → r ≡ q → IsFault n r e → IsFault m q e
 fault_same n m r q e size same h = subst (λ k. IsFault k q e) size (subst (λ z. IsFault n z e) same h)

@@ -5,7 +5,7 @@ ghost use Rattle.target_game.specs.Over.{over};
 ghost use Rattle.solution_tree.specs.Below.{Nodes, sequence};
 ghost use Rattle.solution_tree.specs.Audit.{first_line};
 ghost use Rattle.solution_tree.specs.Below.{no_node};
-ghost use Rattle.solution_tree.specs.Private.Asked.{follows};
+ghost use Rattle.solution_tree.specs.Questions.{follows};
 ghost use Rattle.solution_tree.specs.Faults.{IsFault};
 
 use crate::fault::{AuditFault, AuditWhy};

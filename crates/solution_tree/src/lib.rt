@@ -15,5 +15,6 @@ mod tree_audit;
 pub use answer::Answer;
 pub use expansion::expand;
 pub use fault::{AuditFault, AuditWhy, Expand};
+pub use questions::{ask_rest, take_back, take_turn};
 pub use solution::to_sgf;
 pub use tree_audit::audit;

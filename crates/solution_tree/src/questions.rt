@@ -1,6 +1,6 @@
 //! The checks on a node of an answer tree: as a turn, and for what follows it.
 
-ghost use Rattle.std.specs.Prelude.{◌≡◌, ◌&&◌, ◌||◌, ◌∷◌, [], List, IsTrue, IfOk, IfErr, IfSome, OnOk, Some, None, option_map, is_none};
+ghost use Rattle.std.specs.Prelude.{◌≡◌, ◌≤◌, ◌&&◌, ◌||◌, ◌∷◌, [], List, length, IsTrue, IfOk, IfErr, IfSome, OnErr, OnOk, Some, None, option_map, is_none};
 ghost use Rattle.go_points.specs.Grid.{same_colour};
 ghost use Rattle.go_points.specs.Ply.{Ply, ply_of};
 ghost use Rattle.target_game.specs.Legal.{legal, legal_turns};
@@ -11,7 +11,8 @@ ghost use Rattle.sgf_text.specs.Trees.{forest_of};
 ghost use Rattle.tsumego_problem.specs.Walked.{StandsOn};
 ghost use Rattle.solution_tree.specs.Below.{has_one_turn, carried, nodes_of};
 ghost use Rattle.solution_tree.specs.Audit.{turn_fault, with_turn, rest_fault, turns_in, missing, reply_missing, has_children, has_several};
-ghost use Rattle.solution_tree.specs.Private.Asked.{follows, IsWhy, Tells};
+ghost use Rattle.solution_tree.specs.Questions.{follows, IsWhy, back};
+ghost use Rattle.solution_tree.specs.Private.Asked.{Tells};
 
 use crate::fault::AuditWhy;
 use crate::given::Given;
@@ -41,8 +42,8 @@ fn carried(size: Size, node: &SgfNode) -> Option<(Colour, Turn)>
     }
 }
 
-/// Checks the node as a turn, and makes the turn.
-pub(crate) fn take_turn(state: &mut PlayState, node: &SgfNode) -> Result<Turn, AuditWhy>
+/// Checks the node as a turn (see `audit`), and makes the turn. Refused, nothing changes.
+pub fn take_turn(state: &mut PlayState, node: &SgfNode) -> Result<Turn, AuditWhy>
     ensures asked { OnOk result
         (turn_fault state.old.state (carried state.old.state.game.size node.now) ≡ None) }
     ensures carried { IfOk result
@@ -55,6 +56,7 @@ pub(crate) fn take_turn(state: &mut PlayState, node: &SgfNode) -> Result<Turn, A
           state = next state.old.state (ply_of state.old.state.game.size t);
           before = state.old.state ∷ state.old.before;
         }) }
+    ensures kept { OnErr result (state.new ≡ state.old) }
     ensures err { IfErr result
         (λ w. IsWhy state.old.state.game.size
         (turn_fault state.old.state (carried state.old.state.game.size node.now)) w) }
@@ -164,8 +166,9 @@ pub(crate) fn is_to_move(side: Colour, state: &PlayState) -> bool
     state.mover() == side
 }
 
-/// Checks a node for what follows it.
-pub(crate) fn ask_rest(
+/// Checks a node for what follows it (see `audit`): these nodes of its sequence, and then these child trees. The state is that after its
+/// turn. It tries each legal turn of the other side.
+pub fn ask_rest(
     winner: Colour,
     state: &PlayState,
     nodes: &[SgfNode],
@@ -192,5 +195,17 @@ pub(crate) fn ask_rest(
     match missing_reply(state, &turns_given(state.size(), nodes, children)) {
         Some(due) => Err(AuditWhy::ReplyMissing { due }),
         None => Ok(()),
+    }
+}
+
+/// Takes this many turns back.
+pub fn take_back(state: &mut PlayState, turns: usize)
+    requires { turns ≤ length state.old.before }
+    ensures { state.new ≡ back turns state.old }
+{
+    let mut left = turns;
+    while left > 0 {
+        state.back();
+        left -= 1;
     }
 }

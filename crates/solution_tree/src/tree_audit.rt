@@ -1,6 +1,6 @@
 //! The audit of anyone's answer tree.
 
-ghost use Rattle.std.specs.Prelude.{◌≡◌, ◌≤◌, ◌+◌, ℕ, List, [], Option, Some, None, Ok, IsTrue, IsSome, IfOk, IfErr, OnOk, length, Result as SpecResult};
+ghost use Rattle.std.specs.Prelude.{◌≡◌, ◌+◌, ℕ, List, [], Option, Some, None, Ok, IsTrue, IsSome, IfOk, IfErr, OnOk, length, Result as SpecResult};
 ghost use Rattle.go_points.specs.declared.Colour.{Colour as SpecColour};
 ghost use Rattle.go_points.specs.Ply.{Ply};
 ghost use Rattle.target_game.specs.State.{start};
@@ -9,13 +9,14 @@ ghost use Rattle.sgf_text.specs.Trees.{Forest, tree_then, forest_of};
 ghost use Rattle.tsumego_problem.specs.Walk.{problem_node};
 ghost use Rattle.solution_tree.specs.Below.{nodes_of, count_nodes};
 ghost use Rattle.solution_tree.specs.Audit.{Fault, first_line, faults_of, faults_below, unless_fault, audit};
-ghost use Rattle.solution_tree.specs.Private.Asked.{follows, IsFound, Tells, Leads, back};
+ghost use Rattle.solution_tree.specs.Questions.{follows, Leads};
+ghost use Rattle.solution_tree.specs.Private.Asked.{IsFound, Tells};
 ghost use Rattle.solution_tree.specs.Faults.{IsFault};
 
 use crate::fault::{AuditFault, AuditWhy};
 use crate::first_line::first_line;
 use crate::given::Given;
-use crate::questions::{ask_rest, is_to_move, take_turn};
+use crate::questions::{ask_rest, is_to_move, take_back, take_turn};
 use go_points::Colour;
 use sgf_text::{SgfNode, Tree};
 use std::alloc::Global;
@@ -31,18 +32,6 @@ fn no_memory(node: usize) -> AuditFault
     AuditFault {
         node,
         why: AuditWhy::Memory,
-    }
-}
-
-/// Takes this many turns back.
-fn take_back(state: &mut PlayState, turns: usize)
-    requires { turns ≤ length state.old.before }
-    ensures { state.new ≡ back turns state.old }
-{
-    let mut left = turns;
-    while left > 0 {
-        state.back();
-        left -= 1;
     }
 }
 

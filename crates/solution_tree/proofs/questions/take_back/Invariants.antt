@@ -1,6 +1,6 @@
 use Rattle.std.proofs.Common.{◌≡◌, ◌≤◌, length}
-use Rattle.solution_tree.specs.Private.Asked.{back}
-use Rattle.solution_tree.proofs.tree_audit.take_back.Given as goal
+use Rattle.solution_tree.specs.Questions.{back}
+use Rattle.solution_tree.proofs.questions.take_back.Given as goal
 
 abbrev pub invariant-loop-left : goal.invariant-loop-left
 invariant-loop-left l = (l.left ≤ length l.state.before) × (back l.left l.state ≡ back l.turns l.initial.state)

@@ -17,7 +17,40 @@ ILLEGAL = "(;GM[1]SZ[9];B[cc];W[cc];B[dd])\n"
 # White's answer at A2 would repeat the first position, unless the past is forgotten.
 BARRED = "(;GM[1]SZ[3]AW[aa][ca][ab][bb][cb];AE[ab]AB[ac][bc][cc]PL[B])\n"
 CORNER = "(;GM[1]SZ[3]AW[aa][ca][bb][cb]AB[ac][bc][cc]PL[B])\n"
+# The end of a title game of 1989. White's 41 stones at H19 live by taking black stones ten rows away; GNU Go says that they live.
+FAR = """
+..OXXXXOO..OXXXXOO.
+..OOOX.XO..OOOX.XOX
+..OXOX.XOOOOXX.XOOX
+..OXX.XOOXXXXO.XOX.
+.OOX..XXO.XO.XX.OX.
+OOXX.XOXO.XXOOOOOX.
+.OOX.XOOOXXOO.OXXX.
+OXXX..X.OOXXOOXXO..
+X.XOXX.XO.XOXXOOX..
+.XOOX.XOOOXOOX..X..
+X.XOOOXXOXXX..OOXO.
+X.XXOOX.OOXX.XOXXX.
+.XXOXOOOOX..XXXOXXX
+OXOOXXOXX.XXOOXOOOX
+.OOOXOXOXXXOXOO..OO
+..OXX.XOOXOO..OOO..
+..OO.XXOOOO..O.X...
+...XOXO.O..........
+...O.O..O..........
+"""
 PASSES = "refused: C7, node 6: two passes stand there, so the game is over; --node 4 is before them"
+
+
+def of_rows(text):
+    """A record with the stones of these rows, X and O, and Black to move."""
+    rows = text.split()
+    letters = "abcdefghijklmnopqrs"
+    stones = {
+        name: "".join(f"[{letters[x]}{letters[y]}]" for y, row in enumerate(rows) for x, cell in enumerate(row) if cell == mark)
+        for name, mark in (("AB", "X"), ("AW", "O"))
+    }
+    return f"(;SZ[{len(rows)}]AB{stones['AB']}AW{stones['AW']}PL[B])\n"
 
 
 def group(*words, stdin):
@@ -47,6 +80,13 @@ class Groups(Case):
         if Setting.is_unproved:
             self.skipTest("it takes minutes without the proofs")
         self.is_said(record, wanted, "--steps", "20000")
+
+    @case("group_status: a group that lives by taking stones far away is not called dead")
+    def lives_by_taking_far_away(self):
+        if Setting.is_unproved:
+            self.skipTest("it takes minutes without the proofs")
+        for words in (("--steps", "20000"), ("--quick",)):
+            self.assertNotIn("dead", group("--target", "H19", *words, stdin=of_rows(FAR)).lines()[0])
 
     @case("group_status --sgf: a variation for each answer")
     def shows_answers(self):

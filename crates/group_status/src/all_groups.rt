@@ -102,7 +102,7 @@ fn each_group<W: Write, N: Write>(
 ) -> Result<Course, Stop> {
     let mut course = Course::of(stone_count(problem.colouring()));
     let conditional = say_proved(alloc, problem, request, &mut course, writer, notes)?;
-    course.lost = taken_stones(&course.dead, conditional.as_slice());
+    course.lost = lost_stones(&course.dead, conditional.as_slice());
     say_others(
         alloc,
         problem,
@@ -243,7 +243,7 @@ fn say_others<W: Write, N: Write>(
 }
 
 /// These dead stones, and those of the proofs.
-fn taken_stones(dead: &PointSet, proofs: &[Proof]) -> PointSet {
+fn lost_stones(dead: &PointSet, proofs: &[Proof]) -> PointSet {
     let mut stones = *dead;
     for proof in proofs {
         if let Some(proven) = proof.proven() {

@@ -17,6 +17,9 @@ use std::alloc::{AllocError, Global};
 /// The first, quick look at a group gets one part in this many of the steps.
 const QUICK_SHARE: u64 = 10;
 
+/// Each question of the long look gets one part in this many: of a group that stays open some ten are asked.
+const LONG_SHARE: u64 = 4;
+
 /// What is said about the group: that it lives, if a quick look finds that surely; that each side's first move decides it, if that is
 /// proved with few steps; what the quick look finds with these, if that is sure, or life if there is no such proof of death; this
 /// proof, which depends on stones that are only supposed to stand; first moves that are proved with all steps; and otherwise what both
@@ -33,10 +36,7 @@ pub(crate) fn said_and_line(
         let shape = Proof::Shape(shape, None);
         return Ok((Said::Proved, line_by_proof(alloc, group, &shape, is_json)?));
     }
-    let few = Budget {
-        steps: (budget.steps / QUICK_SHARE).max(1),
-        table: budget.table,
-    };
+    let few = one_part(budget, QUICK_SHARE);
     let none = group.first_moves(alloc, None, 0)?;
     let (word, quick) = line_by(alloc, group, Procedures::First, few, &none, is_json)?;
     if quick.0 == Said::Alive && word == Word::Sure {
@@ -60,8 +60,17 @@ pub(crate) fn said_and_line(
     if let Some(line) = line_by_moves(alloc, group, &more, is_json)? {
         return Ok((Said::Unsettled, line));
     }
-    let (_, both) = line_by(alloc, group, Procedures::Both, budget, &more, is_json)?;
+    let long = one_part(budget, LONG_SHARE);
+    let (_, both) = line_by(alloc, group, Procedures::Both, long, &more, is_json)?;
     Ok(both)
+}
+
+/// The budget with one part in this many of its steps, but one at least.
+fn one_part(budget: Budget, share: u64) -> Budget {
+    Budget {
+        steps: (budget.steps / share.max(1)).max(1),
+        table: budget.table,
+    }
 }
 
 /// What the quick look found, or finds anew if a first move is proved to win.
